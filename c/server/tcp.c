@@ -6,7 +6,8 @@
 
 enum {
     PIECE = 4096,    /* bytes read at once, and of a page */
-    REPLIES = 65536 + 128, /* bytes that wait to be sent: any message takes fewer */
+    RESPONSE = 2048, /* bytes of a response of the TURN server at most, */
+    REPLIES = 65536 + 128 + RESPONSE, /* and of what waits to be sent: a peer's data takes fewer */
     SECOND = 1000,
     CLOSING_TIME = 2000, /* both in milliseconds */
     /* the number of the first endpoint among the connections, and of the first relay socket */
@@ -190,7 +191,7 @@ static turn_outcome take_message(const connection *of, connection_bytes *bytes, 
                           .connection = (size_t)(of - tcp.connections),
                           .serial = of->serial};
     turn_outcome outcome = take_from_client(&client, bytes->message, of->stream.message, room,
-                                            STUN_TYPES_GREATEST_REPLY, written);
+                                            REPLIES - of->replies_end, written);
     send_to_peers(); /* (the next message overwrites this one) */
     return outcome;
 }
@@ -216,10 +217,11 @@ static void answer_piece(connection *of, connection_bytes *bytes) {
     if (outcome == TURN_NOTHING_DUE) count(tcp.mine, TCP_UNANSWERED, 1);
 }
 
-/* Answers what was read, as long as there is room for any reply. */
+/* Answers what was read, as long as there is room for any reply, or any to a client that has an
+ * allocation. */
 static void answer_pieces(connection *of, connection_bytes *bytes) {
     while (!of->closing && of->piece_at < of->piece_end &&
-           of->replies_end + STUN_TYPES_GREATEST_REPLY <= REPLIES) {
+           of->replies_end + (of->relays > 0 ? RESPONSE : STUN_TYPES_GREATEST_REPLY) <= REPLIES) {
         answer_piece(of, bytes);
     }
 }
@@ -279,8 +281,32 @@ static uint32_t serve_in_turn(connection *of, connection_bytes *bytes) {
     }
 }
 
+/* Makes room at the end of what waits. */
+static void move_to_front(connection *of, connection_bytes *bytes) {
+    if (of->replies_at == 0) return;
+    memmove(bytes->replies, bytes->replies + of->replies_at, of->replies_end - of->replies_at);
+    of->replies_end -= of->replies_at;
+    of->replies_at = 0;
+}
+
+/* The same for a connection with an allocation: what its client doesn't read doesn't hinder what it
+ * sends. */
+static uint32_t serve_relayed(connection *of, connection_bytes *bytes) {
+    if (send_waiting(of, bytes) == BROKEN) return 0;
+    move_to_front(of, bytes);
+    if (of->piece_at == of->piece_end && read_piece(of, bytes) == BROKEN) return 0;
+    answer_pieces(of, bytes);
+    if (of->closing) return serve_in_turn(of, bytes);
+    int sent = send_waiting(of, bytes);
+    if (sent == BROKEN) return 0;
+    bool has_answered = of->piece_at == of->piece_end;
+    return (has_answered ? EPOLLIN : 0u) | (sent == WOULD_WAIT || !has_answered ? EPOLLOUT : 0u);
+}
+
 static void serve_connection(connection *of) {
-    uint32_t events = serve_in_turn(of, &tcp.bytes[of - tcp.connections]);
+    connection_bytes *bytes = &tcp.bytes[of - tcp.connections];
+    bool is_relayed = of->relays > 0 && !of->closing;
+    uint32_t events = is_relayed ? serve_relayed(of, bytes) : serve_in_turn(of, bytes);
     if (events == 0 || !await(of, events)) close_connection(of);
 }
 
@@ -298,20 +324,17 @@ static size_t send_at_once(connection *of, const uint8_t *bytes, size_t length) 
  * what is more than the buffer takes. */
 static void deliver(turn_client *to, uint8_t *message, size_t length) {
     connection *of = &tcp.connections[to->connection];
-    uint8_t *waiting = tcp.bytes[to->connection].replies;
+    connection_bytes *bytes = &tcp.bytes[to->connection];
     if (!of->open || of->closing || of->serial != to->serial) return;
     size_t left = send_at_once(of, message, length);
-    if (left > REPLIES - of->replies_end && of->replies_at > 0) {
-        memmove(waiting, waiting + of->replies_at, of->replies_end - of->replies_at);
-        of->replies_end -= of->replies_at;
-        of->replies_at = 0;
-    }
-    count(tcp.mine, left > REPLIES - of->replies_end ? TURN_UNREAD : TCP_SENT, 1);
-    if (left == 0 || left > REPLIES - of->replies_end) return;
-    memcpy(waiting + of->replies_end, message + length - left, left);
+    if (left == length) move_to_front(of, bytes);
+    bool fits = of->replies_end + left + RESPONSE <= REPLIES;
+    count(tcp.mine, fits ? TCP_SENT : TURN_UNREAD, 1);
+    if (left == 0 || !fits) return;
+    memcpy(bytes->replies + of->replies_end, message + length - left, left);
     of->replies_end += left;
     of->large |= of->replies_end > PIECE;
-    (void)await(of, EPOLLOUT);
+    (void)await(of, of->awaited | EPOLLOUT);
 }
 
 /* Counts the allocations of a connection. Its time-outs begin anew after the last. */

@@ -261,6 +261,10 @@ def turn_server(programs, *options, users="user pass\n", secret=None, at=("127.0
         words = [*(ALLOWING if allowing else []), *programs.get("options", []), *options]
         with Server(programs["server"], "-c", str(file), *words, at=at, **how) as server:
             server.folder = folder
+            for address in at:
+                for stream in {False, "-t" in words}:
+                    with Client(server, at={"::": "::1"}.get(address, address), stream=stream) as client:
+                        client.ask_with(REQUEST + bytes(12))  # (now it serves)
             yield server
 
 
@@ -659,7 +663,8 @@ def connections(programs):
 
 
 def unread(programs):
-    """A client that doesn't read its connection loses data; others don't."""
+    """A client that doesn't read its connection loses data, whole messages, and what it sends passes; others
+    lose nothing."""
     with turn_server(programs, "-t") as server, Peer() as peer, Client(server, stream=True) as deaf, \
             Client(server, stream=True) as client:
         deaf_at, relayed = deaf.allocate(), client.allocate()
@@ -670,6 +675,9 @@ def unread(programs):
                 peer.socket.sendto(bytes(60000), deaf_at)
             peer.socket.sendto(b"data", relayed)
             check(client.data() == (0x4000, b"data"), "another client is hindered")
+            for _ in range(5):
+                deaf.send_on(0x4000, bytes(1000))
+                check(peer.hears() == (deaf_at, bytes(1000)), "what it sends is kept back")
         check(server.counts()["turn_unread"] > 0, "nothing is dropped")
         while (got := deaf.data(1)) is not None:
             check(got == (0x4000, bytes(60000)), "a message is torn")
@@ -824,20 +832,21 @@ def coturn_client(programs):
     if not shutil.which("turnutils_uclient") or not shutil.which("turnutils_peer"):
         raise Skipped("coturn's turnutils_uclient and turnutils_peer aren't on this machine")
     port = free_port(["127.0.0.1"])
-    peer = subprocess.Popen(["turnutils_peer", "-L", "127.0.0.1", "-p", port], stdout=subprocess.DEVNULL,
-                            stderr=subprocess.DEVNULL)
     options = ["-t", "-j", "2", "-o", "old-channels=1", "-o", "user-allocations=1000"]
-    try:
-        with turn_server(programs, *options) as server:
-            for kind in (["-s"], [], ["-s", "-t"], ["-t"]):
-                words = ["turnutils_uclient", "-c", *kind, "-u", "user", "-w", "pass", "-e", "127.0.0.1",
-                         "-r", port, "-p", server.port, "-m", "10", "-n", "200", "127.0.0.1"]
-                status, out, told = run(words, 60)
-                lost = re.findall(r"Total lost packets (\d+)", out + told)
-                sent = re.findall(r"tot_send_msgs=(\d+), tot_recv_msgs=(\d+)\n", out + told)
-                check(status == 0 and lost == ["0"] and sent[-1] == ("2000", "2000"),
-                      f"{kind}: status {status}: {(out + told)[-500:]}")
-            ended(server)
-    finally:
-        peer.kill()
-        peer.wait()
+    with turn_server(programs, *options) as server, contextlib.ExitStack() as all_of:
+        def start(*words, **how):
+            started = all_of.enter_context(subprocess.Popen([*words, "127.0.0.1"], text=True, **how))
+            all_of.callback(started.kill)
+            return started
+        start("turnutils_peer", "-p", port, "-L", stdout=subprocess.DEVNULL, stderr=subprocess.DEVNULL)
+        words = ["turnutils_uclient", "-c", "-u", "user", "-w", "pass", "-e", "127.0.0.1", "-r", port,
+                 "-p", server.port, "-m", "10", "-n", "200"]
+        kinds = (["-s"], [], ["-s", "-t"], ["-t"])
+        ran = [start(*words, *kind, stdout=subprocess.PIPE, stderr=subprocess.STDOUT) for kind in kinds]
+        for kind, one in zip(kinds, ran):
+            out, _ = one.communicate(timeout=5 * PATIENCE)
+            lost = re.findall(r"Total lost packets (\d+)", out)
+            sent = re.findall(r"tot_send_msgs=(\d+), tot_recv_msgs=(\d+)\n", out)
+            right = one.returncode == 0 and lost == ["0"] and sent[-1] == ("2000", "2000")
+            check(right, f"{kind}: status {one.returncode}: {out[-500:]}")
+        ended(server)
