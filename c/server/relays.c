@@ -54,11 +54,6 @@ static bool is_unspecified(const stun_types_address *address) {
     return memcmp(address->octets, zeros, sizeof zeros) == 0;
 }
 
-static bool complain(const char *what) {
-    fprintf(stderr, "stun-server: turn: %s\n", what);
-    return false;
-}
-
 /* Finds the addresses of a family. False: what clients would learn is no address. */
 static bool find_family(const endpoints *of, int which) {
     uint16_t family = which == 0 ? 4 : 6;

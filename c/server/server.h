@@ -309,6 +309,9 @@ typedef struct {
 /* Reads what the settings say of TURN, and tests it, before the workers start. False: why is printed. */
 bool prepare_turn(const endpoints *of);
 
+/* Prints what is wrong with the settings of TURN. Returns false. */
+bool complain(const char *what);
+
 /* How many files a process has open for TURN. */
 size_t turn_files(void);
 

@@ -51,7 +51,7 @@ static size_t held;
 
 /* ---- The start ------------------------------------------------------------------------------- */
 
-static bool complain(const char *what) {
+bool complain(const char *what) {
     fprintf(stderr, "stun-server: turn: %s\n", what);
     return false;
 }

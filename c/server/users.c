@@ -62,7 +62,7 @@ static bool make_key(const char *name, const char *password, stun_types_password
     const char *realm = text_setting(REALM, 0);
     stun_types_key key = STUN_TYPES_KEY_INIT;
     stun_types_integrity of;
-    size_t written;
+    size_t written = 0;
     stun_types_answer answer =
         stun_types_key_long_term(&key, name, strlen(name), realm, strlen(realm), password,
                                  strlen(password), algorithm);
