@@ -164,8 +164,8 @@ fn judge_message<'d, N: Nonces, K: LongTermKeys>(
     }
 }
 
-/// Returns what comes of a datagram of a client with the IP address `client`. The first of these that
-/// applies:
+/// Judges a datagram of a client with the IP address `client`: drops it, relays its data, or
+/// authenticates its request. The first of these that applies:
 ///
 /// - A first byte of 0x40 to 0x4F, or to 0x7F with `old_channels`, begins a ChannelData message. It
 ///   is [`Judged::SentOn`], or dropped if it is cut off or longer than its padding (RFC 8656,
