@@ -72,7 +72,7 @@ impl<const P: usize, const C: usize> TurnTable<P, C> {
     /// Makes a table with no allocation. `seed` keys the hash of 5-tuples: pass random numbers.
     ///
     /// It takes all memory that the table ever needs: for each of `limits.allocations` 288 bytes, 48 for
-    /// each of its `P` permissions and 80 for each of its `C` channels, and some 300 to find it.
+    /// each of its `P` permissions and 80 for each of its `C` channels, and 190 to 364 to find it.
     ///
     /// # Requires
     ///
