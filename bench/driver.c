@@ -44,7 +44,7 @@ static void add(Text *message, uint32_t type, const void *value, size_t length) 
 static void sign(Text *message, int algorithm) {
     uint8_t value[32];
     put_length(message, message->length + 4 + digest_length(algorithm));
-    hmac(algorithm, PASSWORD, message->bytes, message->length, value);
+    hmac(algorithm, PASSWORD, strlen(PASSWORD), message->bytes, message->length, value);
     add(message, algorithm == 1 ? 0x0008 : 0x001C, value, digest_length(algorithm));
 }
 

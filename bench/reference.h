@@ -96,9 +96,10 @@ static void digest(int algorithm, const uint8_t *front, size_t front_length, con
 }
 
 /* HMAC of a text, with a key of at most 64 bytes. */
-static void hmac(int algorithm, const char *key, const uint8_t *text, size_t length, uint8_t *result) {
+static void hmac(int algorithm, const void *key, size_t key_length, const uint8_t *text, size_t length,
+                 uint8_t *result) {
     uint8_t inner[64] = {0}, outer[64], hash[32];
-    memcpy(inner, key, strlen(key));
+    memcpy(inner, key, key_length);
     for (int i = 0; i < 64; i++) outer[i] = inner[i] ^ 0x5C, inner[i] ^= 0x36;
     digest(algorithm, inner, 64, text, length, hash);
     digest(algorithm, outer, 64, hash, digest_length(algorithm), result);

@@ -30,7 +30,7 @@ void digest_of(int algorithm, const void *bytes, size_t length, uint8_t *result)
 }
 
 void hmac_of(int algorithm, const char *key, const uint8_t *bytes, size_t length, uint8_t *result) {
-    hmac(algorithm, key, bytes, length, result);
+    hmac(algorithm, key, strlen(key), bytes, length, result);
 }
 
 uint32_t checksum_of(const uint8_t *bytes, size_t length) { return reference_crc(bytes, length); }

@@ -1,5 +1,5 @@
--- The blocks of the special-purpose address registry (RFC 6890, tables 1 to 29), those of multicast, and
--- two that hold IPv4 addresses: which addresses are at their ends, and which are beside them. A
+-- The blocks of the special-purpose address registry (RFC 6890, tables 1 to 29; of SRv6, RFC
+-- 9602), those of multicast and of sites, and three that hold IPv4 addresses: which addresses are at their ends, and which are beside them. A
 -- Python program computed them (ipaddress).
 use Rattle.std.specs.Prelude.{ℕ, List, [], ◌∷◌}
 use Rattle.std.specs.declared.net.ip_addr.IpAddr.{IpAddr}
@@ -41,6 +41,9 @@ closed_ipv4 =
     -- 192.0.0.0/29, DS-Lite
     ipv4 192 0 0 7 ∷
     ipv4 192 0 0 8 ∷
+    -- 192.88.99.0/24, 6to4 relay anycast
+    ipv4 192 88 99 0 ∷
+    ipv4 192 88 99 255 ∷
     -- 192.168.0.0/16, private use
     ipv4 192 168 0 0 ∷
     ipv4 192 168 255 255 ∷
@@ -87,8 +90,6 @@ open_ipv4 =
     ipv4 192 0 3 0 ∷
     -- 192.88.99.0/24, 6to4 relay anycast
     ipv4 192 88 98 255 ∷
-    ipv4 192 88 99 0 ∷
-    ipv4 192 88 99 255 ∷
     ipv4 192 88 100 0 ∷
     -- 192.168.0.0/16, private use
     ipv4 192 167 255 255 ∷
@@ -153,6 +154,15 @@ closed_ipv6 =
     -- 64:ff9b:1::/48, IPv4-IPv6 translation in a network (RFC 8215)
     ipv6 0x64 0xff9b 1 0 0 0 0 0 ∷
     ipv6 0x64 0xff9b 1 0xffff 0xffff 0xffff 0xffff 0xffff ∷
+    -- ::ffff:0:0:0/96, IPv4-translated (RFC 2765, section 2.1)
+    ipv6 0 0 0 0 0xffff 0 0 0 ∷
+    ipv6 0 0 0 0 0xffff 0 0xffff 0xffff ∷
+    -- 5f00::/16, SRv6 (RFC 9602)
+    ipv6 0x5f00 0 0 0 0 0 0 0 ∷
+    ipv6 0x5f00 0xffff 0xffff 0xffff 0xffff 0xffff 0xffff 0xffff ∷
+    -- fec0::/10, site-local (RFC 3879)
+    ipv6 0xfec0 0 0 0 0 0 0 0 ∷
+    ipv6 0xfeff 0xffff 0xffff 0xffff 0xffff 0xffff 0xffff 0xffff ∷
     -- ff00::/8, multicast (RFC 4291, section 2.7)
     ipv6 0xff00 0 0 0 0 0 0 0 ∷
     ipv6 0xffff 0xffff 0xffff 0xffff 0xffff 0xffff 0xffff 0xffff ∷
@@ -188,14 +198,17 @@ open_ipv6 =
     ipv6 0xfe00 0 0 0 0 0 0 0 ∷
     -- fe80::/10, link-scoped unicast
     ipv6 0xfe7f 0xffff 0xffff 0xffff 0xffff 0xffff 0xffff 0xffff ∷
-    ipv6 0xfec0 0 0 0 0 0 0 0 ∷
     -- ::/96, IPv4-compatible (RFC 4291, section 2.5.5.1)
     ipv6 0 0 0 0 0 1 0 0 ∷
     -- 64:ff9b:1::/48, IPv4-IPv6 translation in a network (RFC 8215)
     ipv6 0x64 0xff9b 0 0xffff 0xffff 0xffff 0xffff 0xffff ∷
     ipv6 0x64 0xff9b 2 0 0 0 0 0 ∷
-    -- ff00::/8, multicast (RFC 4291, section 2.7)
-    ipv6 0xfeff 0xffff 0xffff 0xffff 0xffff 0xffff 0xffff 0xffff ∷
+    -- ::ffff:0:0:0/96, IPv4-translated (RFC 2765, section 2.1)
+    ipv6 0 0 0 0 0xfffe 0xffff 0xffff 0xffff ∷
+    ipv6 0 0 0 0 0xffff 1 0 0 ∷
+    -- 5f00::/16, SRv6 (RFC 9602)
+    ipv6 0x5eff 0xffff 0xffff 0xffff 0xffff 0xffff 0xffff 0xffff ∷
+    ipv6 0x5f01 0 0 0 0 0 0 0 ∷
     []
 
 -- the prefix of the first bits of these addresses

@@ -31,8 +31,8 @@ macro_rules! v6 {
 
 /// The prefixes that are denied by default: what is in the server's own host or network, what is no
 /// single host, and what holds an IPv4 address. Of the blocks in the special-purpose registry (RFC
-/// 6890) they leave those for documentation, 192.88.99.0/24 and 100::/64.
-pub const DENIED_BY_DEFAULT: [Prefix; 21] = [
+/// 6890) they leave those for documentation and 100::/64.
+pub const DENIED_BY_DEFAULT: [Prefix; 25] = [
     // 0.0.0.0/8, this network (RFC 1122, section 3.2.1.3)
     v4!(0x0000_0000 / 8),
     // 10.0.0.0/8, private (RFC 1918, section 3)
@@ -47,6 +47,8 @@ pub const DENIED_BY_DEFAULT: [Prefix; 21] = [
     v4!(0xAC10_0000 / 12),
     // 192.0.0.0/24, assignments of the IETF (RFC 6890, section 2.1)
     v4!(0xC000_0000 / 24),
+    // 192.88.99.0/24, relays of 6to4 (RFC 7526)
+    v4!(0xC058_6300 / 24),
     // 192.168.0.0/16, private (RFC 1918, section 3)
     v4!(0xC0A8_0000 / 16),
     // 198.18.0.0/15, benchmarks (RFC 2544, appendix C.2.2)
@@ -59,6 +61,8 @@ pub const DENIED_BY_DEFAULT: [Prefix; 21] = [
     v6!(0x0 / 96),
     // ::ffff:0:0/96, IPv4-mapped (RFC 4291, section 2.5.5.2)
     v6!(0xFFFF_0000_0000 / 96),
+    // ::ffff:0:0:0/96, IPv4-translated (RFC 2765, section 2.1)
+    v6!(0xFFFF_0000_0000_0000 / 96),
     // 64:ff9b::/96, translated to IPv4 (RFC 6052, section 2.1)
     v6!(0x0064_FF9B_0000_0000_0000_0000_0000_0000 / 96),
     // 64:ff9b:1::/48, translated to IPv4 inside a network (RFC 8215)
@@ -69,10 +73,14 @@ pub const DENIED_BY_DEFAULT: [Prefix; 21] = [
     v6!(0x2001_0000_0000_0000_0000_0000_0000_0000 / 32),
     // 2002::/16, 6to4 (RFC 8656, section 21.4; RFC 3056, section 2)
     v6!(0x2002_0000_0000_0000_0000_0000_0000_0000 / 16),
+    // 5f00::/16, segment identifiers of SRv6 (RFC 9602)
+    v6!(0x5F00_0000_0000_0000_0000_0000_0000_0000 / 16),
     // fc00::/7, unique local (RFC 4193, section 3.1)
     v6!(0xFC00_0000_0000_0000_0000_0000_0000_0000 / 7),
     // fe80::/10, link-local (RFC 4291, section 2.5.6)
     v6!(0xFE80_0000_0000_0000_0000_0000_0000_0000 / 10),
+    // fec0::/10, site-local (RFC 3879, section 4)
+    v6!(0xFEC0_0000_0000_0000_0000_0000_0000_0000 / 10),
     // ff00::/8, multicast (RFC 4291, section 2.7)
     v6!(0xFF00_0000_0000_0000_0000_0000_0000_0000 / 8),
 ];
