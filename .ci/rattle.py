@@ -38,6 +38,7 @@ DEMAND = re.compile(r"requires (?:\w+ )?\{ ?(.*?) ?\}$")
 NOT_IN_CODE = r"(?=(?:[^`]*`[^`]*`)*[^`]*$)"
 ASIDE = re.compile(rf" \([^()]*\){NOT_IN_CODE}")
 ADDED = r"[:;]|, (?:which|whose)(?= [^,]*$)|, (?:so that|so|since|as in|for a caller that|for the caller to)"
+ADDED += r"|, as(?= `[^`]*` (?!does|do)\w+s\b)"
 ADDED = re.compile(rf"(?:{ADDED}) {NOT_IN_CODE}")
 NOTHING = re.compile(r"[,;] (?:and |or )?`None` .*")
 # The clauses of the sections on errors and requirements, and what is left out of them.

@@ -4,7 +4,7 @@ use crate::Answer;
 use stun_authentication::{Accepted, Refusal};
 use turn_table::Endpoint;
 
-/// What a server does for a client's datagram, whose data it borrows.
+/// What the caller has to do after a client's datagram. It borrows the data.
 ///
 /// A response goes back on the 5-tuple of the datagram, from the address that this came to. If writing
 /// it fails, the request has taken effect: the client sends it again.
@@ -58,17 +58,17 @@ use turn_table::Endpoint;
 /// ```
 #[derive(Debug, Drop)]
 pub enum Action<'d> {
-    /// Nothing is sent.
+    /// Send nothing.
     Dropped,
-    /// It is a Binding request: `stun_server::reply_into` writes the reply.
+    /// Reply to a Binding request: `stun_server::reply_into` writes the reply.
     Binding,
-    /// The request is refused by an error response that isn't signed, 400, 401 or 438:
+    /// Refuse the request by an error response that isn't signed, 400, 401 or 438:
     /// `stun_authentication::refuse_long_term` writes it.
     Refused(Refusal),
-    /// The request of a user shows types that aren't comprehended:
-    /// [`write_unknown`](crate::write_unknown) writes the error response 420.
+    /// Refuse a user's request with 420, since it shows types that aren't comprehended:
+    /// [`write_unknown`](crate::write_unknown) writes the error response.
     Unknown(Accepted<'d>),
-    /// The request of a user is answered: [`write_answer`](crate::write_answer) writes the response.
+    /// Answer a user's request: [`write_answer`](crate::write_answer) writes the response.
     /// If it opened an allocation, `took` is the number of its socket: the one that was ready with the
     /// relayed address of the answer. Keep the socket by this number, even if the response can't be
     /// written, and have another one ready for the next call.
@@ -77,7 +77,7 @@ pub enum Action<'d> {
         took: Option<u64>,
         accepted: Accepted<'d>,
     },
-    /// The data goes to the peer, from the socket of this number.
+    /// Send the data to the peer, from the socket of this number.
     ToPeer {
         relay: u64,
         peer: Endpoint,

@@ -28,8 +28,8 @@ fn ipv6_number(ip: Ipv6Addr) -> u128
     BigEndian::read_uint128(&ip.octets(), 16)
 }
 
-/// Returns an address as the table has it: without flow info and scope ID, which may differ between
-/// two datagrams of one client.
+/// Converts a socket address into an address of the table: without flow info and scope ID, which may
+/// differ between two datagrams of one client.
 ///
 /// # Examples
 ///

@@ -20,8 +20,8 @@ fn ip_of(ip: Ip) -> IpAddr
     IpAddr::V6(Ipv6Addr::from_octets(bytes))
 }
 
-/// Returns an address of the table as a socket address, of IPv4 if its family is 1 and otherwise of
-/// IPv6, with flow info and scope ID 0: [`endpoint_of`](crate::endpoint_of) the other way. Of a number
+/// Converts an address of the table into a socket address, of IPv4 if its family is 1 and otherwise of
+/// IPv6, with flow info and scope ID 0: the inverse of [`endpoint_of`](crate::endpoint_of). Of a number
 /// that is too large for an IPv4 address it has the low four bytes.
 ///
 /// # Examples

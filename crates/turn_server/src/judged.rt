@@ -1,21 +1,21 @@
-//! What comes of a client's datagram.
+//! How a client's datagram is judged.
 
 use crate::Request;
 use stun_authentication::{Accepted, Refusal};
 use turn_table::{Endpoint, UserId};
 
-/// What comes of a client's datagram, whose data it borrows.
+/// The judgment of a client's datagram, by [`judge`](crate::judge). It borrows the data.
 #[derive(Debug, Drop)]
 pub enum Judged<'d> {
-    /// Nothing.
+    /// The datagram is dropped.
     Dropped,
-    /// It is a Binding request: `stun_server` makes the reply.
+    /// A Binding request: `stun_server` makes the reply.
     Binding,
-    /// The request is refused by an error response that isn't signed: 400, 401 or 438, as
+    /// A request that is refused by an error response that isn't signed: 400, 401 or 438, as
     /// `stun_authentication::refuse_long_term` writes them.
     Refused(Refusal),
-    /// The request of a user shows types that aren't comprehended: it is refused with 420, signed
-    /// by the user's key. [`COMPREHENDED`](crate::COMPREHENDED) says how they are listed.
+    /// A user's request that shows types that aren't comprehended: it is refused with 420, signed by
+    /// the user's key. [`COMPREHENDED`](crate::COMPREHENDED) says how they are listed.
     Unknown(Accepted<'d>),
     /// A Send indication: the data is for the peer (RFC 8656, section 11.2).
     Sent {
@@ -28,8 +28,8 @@ pub enum Judged<'d> {
         channel: u16,
         data: &'d [u8],
     },
-    /// The request of a user, by its number: what it asks the table for. The answer is signed by the
-    /// user's key.
+    /// A user's request for the table: the user's number, and what it asks for. The answer is signed by
+    /// the user's key.
     Asked {
         user: UserId,
         request: Request<'d>,

@@ -216,8 +216,8 @@ pub(crate) fn needs_key<N: Nonces>(
     !is_channel_byte(old_channels, *first) && message_needs_key(datagram, policy, nonces)
 }
 
-/// Returns what comes of a datagram of a client with the IP address `client`. The first of these that
-/// applies:
+/// Judges a datagram of a client with the IP address `client`: drops it, relays its data, or
+/// authenticates its request. The first of these that applies:
 ///
 /// - A first byte of 0x40 to 0x4F, or to 0x7F with `old_channels`, begins a ChannelData message. It
 ///   is [`Judged::SentOn`], or dropped if it is cut off or longer than its padding (RFC 8656,

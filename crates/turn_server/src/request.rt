@@ -24,15 +24,15 @@ use turn_table::{Endpoint, Ip};
 /// request has no LIFETIME.
 #[derive(Debug, Drop)]
 pub enum Request<'d> {
-    /// Allocate, by the transaction ID of the request: the address of the socket that it gets, or
-    /// the code by which it is refused if it isn't a request that comes again (RFC 8656, section 7.2).
+    /// Allocate: the transaction ID of the request, and the relayed transport address that it is
+    /// offered, or the error code unless the request is a retransmission (RFC 8656, section 7.2).
     Allocate {
         id: TransactionId,
         lifetime: Option<u32>,
         wish: Result<Endpoint, u16>,
     },
-    /// Refresh: the address family that it names, 1 for IPv4 and 2 for IPv6, as its byte (RFC 8656,
-    /// section 8.2).
+    /// Refresh: the byte of REQUESTED-ADDRESS-FAMILY, 1 for IPv4 and 2 for IPv6, if there is one (RFC
+    /// 8656, section 8.2).
     Refresh {
         family: Option<u8>,
         lifetime: Option<u32>,
@@ -40,13 +40,13 @@ pub enum Request<'d> {
     /// CreatePermission for these peers (RFC 8656, section 10.2). If there are more than
     /// [`PEERS`](crate::PEERS), the server refuses it with 508.
     Permit(PeerAddresses<'d>),
-    /// ChannelBind: the channel, by any number of 16 bits, and the peer (RFC 8656, section 12.2).
+    /// ChannelBind: the channel number, any of 16 bits, and the peer (RFC 8656, section 12.2).
     Bind {
         channel: u16,
         peer: Endpoint,
     },
-    /// Any but an Allocate request: its bytes refuse it with this code, 400, if its allocation is
-    /// there, and is its user's.
+    /// A request other than Allocate with malformed attributes: if its allocation exists and is its
+    /// user's, it is refused with this code, 400.
     Unfit(u16),
 }
 

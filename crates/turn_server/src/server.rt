@@ -79,8 +79,8 @@ fn answer_by(reply: Reply) -> Answer
 /// permissions and `C` channels each.
 ///
 /// Each call takes the caller's clock, a monotonic one: nanoseconds since a beginning of its choice. A
-/// clock that steps back counts as stopped. All memory is taken by [`TurnServer::new`], but for the look-up of a
-/// user's key.
+/// clock that steps back counts as stopped. No call but [`TurnServer::new`] takes memory, except to
+/// look up a user's key.
 ///
 /// # Examples
 ///
@@ -141,15 +141,18 @@ impl<const P: usize, const C: usize> Model for TurnServer<P, C> {
 }
 
 impl<const P: usize, const C: usize> TurnServer<P, C> {
-    /// A server with no allocation. `seed` keys the hash of 5-tuples: take random numbers.
+    /// Makes a server with no allocation. `seed` keys the hash of 5-tuples: pass random numbers.
     ///
-    /// # Errors
-    ///
-    /// Only if an allocation failed. It takes all memory that the server ever needs.
+    /// It takes all memory that the server ever needs: for each of `limits.allocations` 288 bytes, 48 for
+    /// each of its `P` permissions and 80 for each of its `C` channels, and 190 to 364 to find it.
     ///
     /// # Requires
     ///
     /// `P` and `C` are at most 65,535.
+    ///
+    /// # Errors
+    ///
+    /// Only if an allocation failed.
     pub fn new(alloc: Global, limits: Limits, seed: [u64; 2]) -> Result<Self, AllocError>
         requires permissions { P ≤ 65_535 }
         requires channels { C ≤ 65_535 }
@@ -275,9 +278,9 @@ impl<const P: usize, const C: usize> TurnServer<P, C> {
         needs_key(datagram, self.table.limits().old_channels, policy, nonces)
     }
 
-    /// Takes a client's datagram: keeps what it changes, and returns what is done for it. [`judge`]
-    /// says what it is taken for; the caller writes the response, if one is due, by what
-    /// [`Action`] says, and sends it to where the datagram came from.
+    /// Handles a client's datagram: judges it as [`judge`] does, updates the table, and returns what
+    /// the caller has to do. [`Action`] says how to write the response, which goes to where the datagram
+    /// came from.
     ///
     /// `from` is the client, the address that its datagram came to, and the protocol between them, by
     /// numbers of the caller's choice: 17 for UDP and 6 for TCP, say. What a stream is cut into counts as
@@ -322,8 +325,8 @@ impl<const P: usize, const C: usize> TurnServer<P, C> {
         Ok(self.act(now, from, judged, policy))
     }
 
-    /// Takes a peer's datagram, which came to the socket of this number: returns the client that its
-    /// data goes to, on a channel or in a Data indication (RFC 8656, sections 11.3 and 12.7).
+    /// Returns the client that a peer's datagram goes to, on a channel or in a Data indication, by the
+    /// number of the socket that it came to (RFC 8656, sections 11.3 and 12.7).
     /// `turn_attrs::write_channel_head` and `write_data_head` write what comes before the data.
     ///
     /// A Data indication has a transaction ID that the caller draws.
@@ -341,7 +344,7 @@ impl<const P: usize, const C: usize> TurnServer<P, C> {
     }
 
     /// Closes allocations that have ended, as many as `ended` has room for, and writes the numbers of
-    /// their sockets at its start, for the caller to close them. Returns how many. If that is less
+    /// their sockets at its start. Returns how many: the caller closes these sockets. If that is less
     /// than the length of `ended`, no allocation is left that has ended.
     ///
     /// Each call visits every allocation. One that has ended takes a place of the table until then, so

@@ -6,12 +6,14 @@ ghost use Rattle.turn_table.specs.declared.endpoints.Endpoint.{Endpoint};
 
 use crate::endpoints::{Endpoint, Ip};
 
-/// The bounds of a table, and two departures from RFC 8656 for clients that need them.
+/// What the caller sets when it makes a table: bounds on allocations and lifetimes, and two departures
+/// from RFC 8656 for clients that need them.
 #[derive(Clone, Copy, Debug, PartialEq, Eq)]
 pub struct Limits {
-    /// The maximum number of allocations. One that has ended counts until a poll reports it.
+    /// The maximum number of allocations: a further one is refused with 508. One that has ended counts
+    /// until a poll reports it.
     pub allocations: u32,
-    /// The most live allocations of one user.
+    /// The maximum number of live allocations of one user: a further one is refused with 486.
     pub of_user: u32,
     /// The maximum lifetime in seconds: RFC 8656, section 7.2, recommends at most 3600. A value
     /// below 600 counts as 600.
@@ -23,7 +25,7 @@ pub struct Limits {
     pub old_channels: bool,
 }
 
-/// Which peers clients may reach.
+/// Decides which peers clients may reach.
 pub trait PeerPolicy {
     ghost allows_address: { Self → Ip → Bool };
 

@@ -82,8 +82,8 @@ impl Peers<'_> {
         self.allows_ip(peer.ip()) && !self.listens_at(address_of(peer.ip()), peer.port())
     }
 
-    /// Whether the server relays to peers of this IP address: what it asks for a permission, which is
-    /// of no port (RFC 8656, section 9).
+    /// Whether the server relays to peers of this IP address: the test for a permission, which is of no
+    /// port (RFC 8656, section 9).
     ///
     /// # Examples
     ///

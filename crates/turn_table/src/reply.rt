@@ -2,7 +2,7 @@
 
 use crate::endpoints::{Endpoint, FiveTuple};
 
-/// A request of a user that isn't Allocate, as its attributes say.
+/// A request of an authenticated user, other than Allocate, with the values of its attributes.
 #[derive(Clone, Copy)]
 pub enum Request<'a> {
     /// Refresh: the value of REQUESTED-ADDRESS-FAMILY, if it has one, and LIFETIME in seconds.
@@ -11,11 +11,12 @@ pub enum Request<'a> {
     CreatePermission(&'a [Endpoint]),
     /// ChannelBind: CHANNEL-NUMBER and XOR-PEER-ADDRESS.
     ChannelBind(u16, Endpoint),
-    /// One whose attributes are refused with this code, if the client has an allocation.
+    /// A request with malformed attributes: if the client has an allocation, it is refused with this
+    /// code.
     Unfit(u16),
 }
 
-/// The answer to a request that isn't Allocate.
+/// The answer to a request other than Allocate.
 #[derive(Clone, Copy, Debug, PartialEq, Eq)]
 pub enum Reply {
     /// A success response to Refresh, with this LIFETIME in seconds.
@@ -50,13 +51,17 @@ pub enum AllocateReply {
 /// Where data of a client goes: from the socket of this number to a peer.
 #[derive(Clone, Copy, Debug, PartialEq, Eq)]
 pub struct ToPeer {
+    /// The number of the relay socket.
     pub relay: u64,
+    /// The peer.
     pub peer: Endpoint,
 }
 
 /// Where data of a peer goes: to the client, on a channel or in a Data indication.
 #[derive(Clone, Copy, Debug, PartialEq, Eq)]
 pub struct ToClient {
+    /// The 5-tuple of the client.
     pub tuple: FiveTuple,
+    /// The channel that is bound to the peer; `None` for a Data indication.
     pub channel: Option<u16>,
 }

@@ -69,13 +69,18 @@ impl<const P: usize, const C: usize> Model for TurnTable<P, C> {
 }
 
 impl<const P: usize, const C: usize> TurnTable<P, C> {
-    /// A table with no allocation. `seed` keys the hash of 5-tuples: take random numbers.
+    /// Makes a table with no allocation. `seed` keys the hash of 5-tuples: pass random numbers.
     ///
-    /// Fails if memory runs out. It takes all memory that the table ever needs.
+    /// It takes all memory that the table ever needs: for each of `limits.allocations` 288 bytes, 48 for
+    /// each of its `P` permissions and 80 for each of its `C` channels, and 190 to 364 to find it.
     ///
     /// # Requires
     ///
     /// `P` and `C` are at most 65,535.
+    ///
+    /// # Errors
+    ///
+    /// Only if an allocation failed.
     pub fn new(alloc: Global, limits: Limits, seed: [u64; 2]) -> Result<Self, AllocError>
         requires permissions { P ≤ 65_535 }
         requires channels { C ≤ 65_535 }
@@ -103,9 +108,9 @@ impl<const P: usize, const C: usize> TurnTable<P, C> {
 
     /// Answers an Allocate request of a user (RFC 8656, section 7.2).
     ///
-    /// `id` is its transaction ID and `lifetime` its LIFETIME in seconds. `wish` is the address of the
-    /// socket that the caller has ready for it, or the code by which it gets none, such as 508 if
-    /// there is none of that kind. The table chooses the socket's number: a slot of the table in its
+    /// `id` is its transaction ID and `lifetime` its LIFETIME in seconds. `wish` is the relayed
+    /// transport address that the caller offers, that of a socket that is ready, or the error code if
+    /// it offers none, such as 508. The table chooses the socket's number: a slot of the table in its
     /// low 32 bits, and in its high 32 bits a counter of allocations, so that a number is used again
     /// only after 2^32 of them.
     ///
@@ -173,8 +178,8 @@ impl<const P: usize, const C: usize> TurnTable<P, C> {
         }
     }
 
-    /// Answers a request of a user that isn't Allocate, and does what it asks for (RFC 8656, sections
-    /// 8, 10 and 12).
+    /// Answers a request of a user other than Allocate: refreshes or deletes the allocation, installs
+    /// permissions, or binds a channel (RFC 8656, sections 8, 10 and 12).
     ///
     /// Refuses with 437 if the client has no live allocation, and with 441 if it is another user's.
     /// Refuses a Refresh request with 443 if it names another address family than the
@@ -247,7 +252,7 @@ impl<const P: usize, const C: usize> TurnTable<P, C> {
             .receive(&self.limits, self.slots.clock(), peer)
     }
 
-    /// The peer that the data of a Send indication goes to (RFC 8656, section 11.2).
+    /// Returns the peer that the data of a Send indication goes to (RFC 8656, section 11.2).
     ///
     /// `None` if it is dropped: the client has no live allocation, or no permission for the peer's IP
     /// address, or the peer's port is forbidden.
@@ -268,7 +273,7 @@ impl<const P: usize, const C: usize> TurnTable<P, C> {
         self.relay_send(tuple, peer, policy)
     }
 
-    /// The peer that the data of a ChannelData message goes to (RFC 8656, section 12.6).
+    /// Returns the peer that the data of a ChannelData message goes to (RFC 8656, section 12.6).
     ///
     /// `None` if it is dropped: the channel isn't bound, or the data of a Send indication to its peer
     /// would be dropped.
@@ -289,8 +294,8 @@ impl<const P: usize, const C: usize> TurnTable<P, C> {
         self.relay_on_channel(tuple, number, policy)
     }
 
-    /// The client that a peer's datagram goes to, by the number of the socket that it came to (RFC
-    /// 8656, sections 11.3 and 12.7).
+    /// Returns the client that a peer's datagram goes to, by the number of the socket that it came to
+    /// (RFC 8656, sections 11.3 and 12.7).
     ///
     /// `None` if it is dropped: the socket belongs to no live allocation, or there is no permission
     /// for the peer's IP address.

@@ -3,7 +3,7 @@
 ghost use Rattle.std.specs.Prelude.{◌≡◌, ◌==◌};
 ghost use Rattle.turn_table.specs.Users.{number_of, user_number};
 
-/// A user of the server, by 32 bytes that no other user has, such as the SHA-256 of its name.
+/// Identifies a user of the server by 32 bytes that no other user has, such as the SHA-256 of the name.
 #[derive(Clone, Copy, Debug)]
 pub struct UserId(pub [u8; 32]);
 
