@@ -1264,7 +1264,7 @@ stun_types_answer stun_types_turn_client(stun_types_turn *server, uint64_t now,
                                          const stun_types_key *sha256_key,
                                          uint8_t *room, size_t size, stun_types_turn_action *action);
 
-/* Where the data of a peer goes. */
+/* What to do with the data of a peer. */
 typedef struct {
     stun_types_five_tuple to;
     uint16_t sends;       /* 1: head[size - head_length .. size), the data, padding zeros; 0: it is dropped */
@@ -1279,7 +1279,7 @@ typedef struct {
    STUN_TYPES_TURN_HEAD. So receive at buffer + 48, and pass buffer as head. id: random; the transaction ID of
    a Data indication. It is dropped if the socket is no live allocation's, if there is no permission for the
    peer, or if the message is longer than the transport to the client takes: 65,507 bytes over UDP and IPv4,
-   65,527 over UDP and IPv6, and 65,555 on a stream.
+   65,527 over UDP and IPv6, and 65,552 on a stream.
    BAD_ARGUMENT: there is no server, or a family that is neither 4 nor 6. TOO_SMALL: head is shorter. */
 STUN_TYPES_NODISCARD STUN_TYPES_NONNULL((1, 3, 6, 9))
 stun_types_answer stun_types_turn_peer(stun_types_turn *server, uint64_t now,

@@ -15,3 +15,4 @@ mod NumbersLemmas
 mod RefusalsLemmas
 mod ManyTransactionsLemmas
 mod KnownTypesLemmas
+mod TurnLemmas

@@ -1,6 +1,7 @@
 -- Addresses as C sees them, and what reading one answers (RFC 8489, sections 14.1 and 14.2).
 use Rattle.std.specs.Prelude.{◌≡◌, ℕ, Bool, true, false, List, take, Option, None, Some, MatchOption, IsSomeAnd, ◌==◌, if◌then◌else◌}
 use Rattle.std.specs.Net.Addr.{segments_of}
+use Rattle.std.specs.Option.{option_map}
 use Rattle.std.specs.Net.Socket.{socket_ip, socket_port}
 use Rattle.std.specs.declared.net.ip_addr.IpAddr.{IpAddr}
 use Rattle.std.specs.declared.net.ip_addr.IpAddr.TheVariants.{V4, V6}
@@ -9,7 +10,7 @@ use Rattle.stun_grammar.specs.Headers.{header_fault, id_field}
 use Rattle.stun_types.specs.declared.attribute.known.ValueForm.{ValueForm}
 use Rattle.stun_types.specs.declared.attribute.known.ValueForm.TheVariants.{Address as PlainAddress, XorAddress}
 use Rattle.stun_plain_text.specs.NamesOfAll.{value_form}
-use Rattle.stun_values.specs.Addresses.{octets, octets_count, address_fault, address_in, IsPlain, IsXored}
+use Rattle.stun_values.specs.Addresses.{octets, octets_count, address_fault, address_in, plain_socket, IsPlain, IsXored}
 use Rattle.stun_types_c.specs.declared.address.Address.{Address}
 use Rattle.stun_types_c.specs.declared.call_result.CResult.{CResult}
 use Rattle.stun_types_c.specs.declared.attribute.ShownAttribute.{ShownAttribute}
@@ -50,6 +51,10 @@ abbrev pub Names : Address → Option SocketAddr → Type 0
 Names address named =
     MatchOption (ip_named address) (named ≡ None)
     (λ ip. IsSomeAnd named (IsAt ip address.port))
+
+-- the same as a value
+abbrev pub socket_named : Address → Option SocketAddr
+socket_named address = option_map (λ ip. plain_socket ip address.port) (ip_named address)
 
 -- what reading the address in a value answers
 abbrev pub ReadsFrom : (SocketAddr → Address → Type 0) → List ℕ → CResult → Address → Address

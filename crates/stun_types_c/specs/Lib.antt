@@ -31,3 +31,12 @@ pub mod Refusals
 pub mod StatelessNonces
 pub mod ManyTransactions
 pub mod Versions
+pub mod TurnTimes
+pub mod TurnMarks
+pub mod TurnHandles
+pub mod TurnServers
+pub mod TurnAddresses
+pub mod TurnMaking
+pub mod TurnClients
+pub mod TurnHeads
+pub mod TurnPeers

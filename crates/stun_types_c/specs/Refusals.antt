@@ -4,6 +4,7 @@ use Rattle.std.specs.Prelude.{◌≡◌, ◌⊎◌, ℕ, ◌+◌, ◌*◌, ◌%�
 use Rattle.std.specs.Int.{from_bool}
 use Rattle.std.specs.Option.{option_map, option_map_or, option_or}
 use Rattle.std.specs.Str.{is_utf8}
+use Rattle.stun_grammar.specs.declared.error.StunWriteError.{StunWriteError}
 use Rattle.stun_grammar.specs.Headers.{type_field}
 use Rattle.stun_grammar.specs.Parsing.{parse_fault}
 use Rattle.stun_base.specs.MessageTypes.{class_of}
@@ -80,13 +81,19 @@ Delivers message result old new =
     }))
     (λ answer. Refuses answer result old new)
 
--- the response that refuses r is written, unless an allocation fails
-abbrev pub WritesRefusal : List ℕ → Refusal → Option Asked → CResult → Written → Written → Type 0
-WritesRefusal r refusal asked result old new =
-    MatchOption (no_room None 20 (refusal_sizes r refusal asked))
-    (Delivers (refusal_of r refusal asked) result old new)
+-- a message is written, or a writer refuses it, unless an allocation fails
+abbrev pub WritesText : (refusal : Option StunWriteError) → (text : List ℕ) → CResult → Written
+    → Written → Type 0
+WritesText refusal text result old new =
+    MatchOption refusal
+    (Delivers text result old new)
     (λ e. Refuses (write_result e) result old new)
     ⊎ Refuses (plain OUT_OF_MEMORY) result old new
+
+-- the response that refuses r is written
+abbrev pub WritesRefusal : List ℕ → Refusal → Option Asked → CResult → Written → Written → Type 0
+WritesRefusal r refusal asked =
+    WritesText (no_room None 20 (refusal_sizes r refusal asked)) (refusal_of r refusal asked)
 
 -- the same under short-term credentials, by the number of the code
 abbrev pub RefusesShortTerm : List ℕ → (code : ℕ) → CResult → Written → Written → Type 0

@@ -10,6 +10,8 @@ use Rattle.stun_authentication.specs.Lookups.{UserKey, key_held, Known, valid, s
 use Rattle.stun_types_c.specs.declared.authentication.CNonceState.{CNonceState}
 use Rattle.stun_types_c.specs.declared.authentication.CNonceState.TheVariants.{Valid, Stale, Unknown}
 use Rattle.stun_types_c.specs.declared.authentication.OneNonce.{OneNonce}
+use Rattle.stun_types_c.specs.declared.authentication.OneUser.{OneUser}
+use Rattle.stun_authentication.specs.Identities.{Who}
 
 -- a user's key, if C has one: its bytes, and the integrity algorithm that it was made for
 abbrev pub held_of : Option IntegrityKey → Option UserKey
@@ -45,3 +47,7 @@ state_named number =
 -- what is known of a nonce in a state
 abbrev pub nonce_in : ℕ → List PasswordAlgorithmValue → Option Known
 nonce_in number sent = option_map (λ state. known_nonce state sent) (state_named number)
+
+-- the keys of the one user, whoever is asked for
+abbrev pub keys_of : OneUser → Who → List ℕ → PasswordAlgorithmValue → Option UserKey
+keys_of one user realm = long_term_key_of (borrowed_of one.md5) (borrowed_of one.sha256)

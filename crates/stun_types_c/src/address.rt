@@ -1,7 +1,7 @@
 //! Addresses in attributes.
 
 ghost use Rattle.std.specs.Prelude.{◌≡◌};
-ghost use Rattle.stun_types_c.specs.Addresses.{ipv4_named, ipv6_named, Holds, HoldsXored, Names, is_xored_type, is_plain_type, ReadsFrom, ReadsAddress, ReadsXorAddress};
+ghost use Rattle.stun_types_c.specs.Addresses.{ipv4_named, ipv6_named, Holds, HoldsXored, Names, socket_named, is_xored_type, is_plain_type, ReadsFrom, ReadsAddress, ReadsXorAddress};
 
 use crate::attribute::ShownAttribute;
 use crate::call_result::{CResult, parse_result, plain};
@@ -65,7 +65,8 @@ fn ipv6_of(octets: &[u8; 16]) -> IpAddr
 
 /// The address that C's form names; `None` if the family is neither 4 nor 6.
 pub(crate) fn socket_of(address: &Address) -> Option<SocketAddr>
-    ensures { Names address.now result }
+    ensures named { Names address.now result }
+    ensures value { result ≡ socket_named address.now }
 {
     match address.family {
         4 => Some(SocketAddr::new(ipv4_of(&address.octets), address.port)),

@@ -8,7 +8,7 @@ ghost use Rattle.stun_authentication.specs.Lookups.{IsKeyOf};
 ghost use Rattle.stun_authentication.specs.LongTerm.{long_term};
 ghost use Rattle.stun_types.specs.Message.{message_bytes};
 ghost use Rattle.stun_types_c.specs.KeyHandles.{shared_key};
-ghost use Rattle.stun_types_c.specs.Users.{held_of, borrowed_of, long_term_key_of, known_of, state_named};
+ghost use Rattle.stun_types_c.specs.Users.{held_of, borrowed_of, keys_of, known_of, state_named};
 ghost use Rattle.stun_types_c.specs.Authentication.{policy_named, nonce_named, password_used, number_used, used_in, in_c, by_short_term, by_long_term, undecided, TellsDecision, Authenticates};
 
 use crate::call_result::{CResult, parse_result, plain};
@@ -97,10 +97,9 @@ impl ShortTermKeys for OneUser<'_> {
 }
 
 impl LongTermKeys for OneUser<'_> {
-    ghost use Rattle.stun_types_c.specs.Users.{borrowed_of, long_term_key_of};
+    ghost use Rattle.stun_types_c.specs.Users.{keys_of};
 
-    ghost key_of = { λ user _ _.
-        long_term_key_of (borrowed_of user.md5) (borrowed_of user.sha256) };
+    ghost key_of = { keys_of };
 
     fn key(
         &self,
@@ -313,8 +312,7 @@ fn long_term_decision<'a>(
     user: &OneUser<'_>,
 ) -> Result<Authentication<'a>, AllocError>
     ensures { IfOk result (Tells (long_term policy [] (λ _. known_of nonce.now)
-        (λ _ _. long_term_key_of (borrowed_of user.now.md5) (borrowed_of user.now.sha256))
-        (message_bytes message.now))) }
+        (keys_of user.now) (message_bytes message.now))) }
 {
     authenticate_long_term(alloc, message, "", policy, nonce, user)
 }

@@ -1,7 +1,7 @@
 //! The error response to a request that a server refuses, and the security features that its nonces
 //! promise.
 
-ghost use Rattle.std.specs.Prelude.{◌≡◌, ◌⊎◌, Some, None, take, MatchResult};
+ghost use Rattle.std.specs.Prelude.{◌≡◌, ◌⊎◌, ◌≤◌, Some, None, length, take, MatchResult};
 ghost use Rattle.stun_base.specs.MessageTypes.{class_of};
 ghost use Rattle.stun_base.specs.declared.message_class.MessageClass.TheVariants.{Request};
 ghost use Rattle.stun_grammar.specs.Headers.{type_field};
@@ -162,6 +162,7 @@ pub(crate) fn challenge_with<'a>(
     nonce: &'a Nonce,
     algorithms: &[PasswordAlgorithmValue],
 ) -> Result<Challenge<'a>, CResult>
+    requires { length algorithms.now ≤ 16 }
     ensures { let asked = asked_of (text_bytes realm.now) (text_bytes nonce.now) algorithms.now in
         MatchResult result
         (λ challenge. (list_answer asked ≡ None) × (asked_in challenge ≡ asked))

@@ -1,5 +1,10 @@
 //! Where datagrams of TURN come from and go to, in C's form.
 
+ghost use Rattle.std.specs.Prelude.{◌≡◌};
+ghost use Rattle.turn_server.specs.Endpoints.{socket_of};
+ghost use Rattle.stun_types_c.specs.Addresses.{Holds};
+ghost use Rattle.stun_types_c.specs.TurnAddresses.{transport_named, tuple_named, ready_named, family_named, sockets_named, HoldsTuple};
+
 use crate::address::{Address, in_c, socket_of};
 use std::net::SocketAddr;
 use turn_server::{Ready, Sockets, endpoint_of, socket_of as socket_of_endpoint};
@@ -36,7 +41,7 @@ pub struct CTurnReady {
 }
 
 /// The protocol number of UDP.
-const UDP: u8 = 17;
+pub(crate) const UDP: u8 = 17;
 
 /// That of TCP.
 const TCP: u8 = 6;
@@ -48,67 +53,81 @@ pub(crate) const NOWHERE: Address = Address {
     family: 0,
 };
 
+/// The protocol number of a transport.
+fn transport_of(stream: u16) -> Option<u8>
+    ensures { result ≡ transport_named stream }
+{
+    match stream {
+        0 => Some(UDP),
+        1 => Some(TCP),
+        _ => None,
+    }
+}
+
 /// A 5-tuple of C's, and its client as the nonces have it.
-pub(crate) fn tuple_of(named: &CFiveTuple) -> Option<(SocketAddr, FiveTuple)> {
+pub(crate) fn tuple_of(named: &CFiveTuple) -> Option<(SocketAddr, FiveTuple)>
+    ensures { result ≡ tuple_named named.now }
+{
     let client = socket_of(&named.client)?;
     let server = socket_of(&named.server)?;
-    let transport = match named.stream {
-        0 => UDP,
-        1 => TCP,
-        _ => return None,
+    let transport = transport_of(named.stream)?;
+    let tuple = FiveTuple {
+        client: endpoint_of(client),
+        server: endpoint_of(server),
+        transport,
     };
-    Some((
-        client,
-        FiveTuple {
-            client: endpoint_of(client),
-            server: endpoint_of(server),
-            transport,
-        },
-    ))
+    Some((client, tuple))
 }
 
 /// An address of the table, in C's form.
-pub(crate) fn address_of(endpoint: Endpoint) -> Address {
+pub(crate) fn address_of(endpoint: Endpoint) -> Address
+    ensures { Holds (socket_of endpoint) result }
+{
     in_c(socket_of_endpoint(endpoint))
 }
 
 /// A 5-tuple of the table, in C's form.
-pub(crate) fn tuple_in_c(tuple: &FiveTuple) -> CFiveTuple {
+pub(crate) fn tuple_in_c(tuple: &FiveTuple) -> CFiveTuple
+    ensures { HoldsTuple tuple.now result }
+{
     CFiveTuple {
         client: address_of(tuple.client),
         server: address_of(tuple.server),
-        stream: u16::from(tuple.transport == TCP),
+        stream: u16::from(tuple.transport != UDP),
     }
 }
 
 /// The address of a socket that is ready, if there is one; an error if it isn't of this family.
-fn endpoint_in(address: &Address, family: u16) -> Result<Option<Endpoint>, ()> {
+fn endpoint_in(address: &Address, family: u16) -> Option<Option<Endpoint>>
+    ensures { result ≡ ready_named family address.now }
+{
     if address.family == 0 {
-        return Ok(None);
+        return Some(None);
     }
     if address.family != family {
-        return Err(());
+        return None;
     }
-    match socket_of(address) {
-        Some(address) => Ok(Some(endpoint_of(address))),
-        None => Err(()),
-    }
+    let address = socket_of(address)?;
+    Some(Some(endpoint_of(address)))
 }
 
 /// The sockets of a family that are ready.
-fn ready_of(offered: u16, any: &Address, even: &Address, family: u16) -> Result<Option<Ready>, ()> {
+fn ready_of(family: u16, has: u16, any: &Address, even: &Address) -> Option<Option<Ready>>
+    ensures { result ≡ family_named family has any.now even.now }
+{
     let any = endpoint_in(any, family)?;
     let even = endpoint_in(even, family)?;
-    Ok(if offered != 0 {
-        Some(Ready { any, even })
-    } else {
-        None
-    })
+    if has == 0 {
+        return Some(None);
+    }
+    Some(Some(Ready { any, even }))
 }
 
 /// The sockets that C has ready; `None` if one has an address of another family.
-pub(crate) fn sockets_of(ready: &CTurnReady) -> Option<Sockets> {
-    let ipv4 = ready_of(ready.ipv4, &ready.any_ipv4, &ready.even_ipv4, 4).ok()?;
-    let ipv6 = ready_of(ready.ipv6, &ready.any_ipv6, &ready.even_ipv6, 6).ok()?;
+pub(crate) fn sockets_of(ready: &CTurnReady) -> Option<Sockets>
+    ensures { result ≡ sockets_named ready.now }
+{
+    let ipv4 = ready_of(4, ready.ipv4, &ready.any_ipv4, &ready.even_ipv4)?;
+    let ipv6 = ready_of(6, ready.ipv6, &ready.any_ipv6, &ready.even_ipv6)?;
     Some(Sockets { ipv4, ipv6 })
 }

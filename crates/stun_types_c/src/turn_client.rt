@@ -1,24 +1,39 @@
 //! What a TURN server does for a client's datagram.
 
+ghost use Rattle.std.specs.Prelude.{◌≡◌, ◌&&◌, not, false, Some, IfOk, IsOk, OnErr};
+ghost use Rattle.stun_base.specs.MessageTypes.{class_of};
+ghost use Rattle.stun_base.specs.declared.message_class.MessageClass.TheVariants.{Request};
+ghost use Rattle.stun_grammar.specs.Headers.{type_field};
+ghost use Rattle.stun_types.specs.Message.{message_bytes};
+ghost use Rattle.turn_server.specs.Actions.{Acts};
+ghost use Rattle.turn_server.specs.Addresses.{endpoint_of};
+ghost use Rattle.turn_server.specs.Judgments.{IsOfClass};
+ghost use Rattle.stun_types_c.specs.KeyHandles.{shared_key};
+ghost use Rattle.stun_types_c.specs.TurnClients.{of_kind, nothing, data_at, IsDone, with_response, answer_code, response_code, IsAnswerable, Responds, IsSameServer, ActsOn, asks_for_key, Takes, keys_in_c, TakesDatagram};
+ghost use Rattle.stun_types_c.specs.TurnHandles.{held_turn};
+ghost use Rattle.stun_types_c.specs.TurnServers.{setup_in, site_in};
+ghost use Rattle.stun_types_c.specs.Users.{keys_of};
+
 use crate::address::Address;
 use crate::authentication::{OneUser, key_in};
 use crate::call_result::{CResult, plain};
 use crate::challenges::value_at;
 use crate::codes;
-use crate::refusals::request_in;
 use crate::server::reply_to;
 use crate::shared_key::SharedKey;
 use crate::turn_addresses::{
     CFiveTuple, CTurnReady, NOWHERE, address_of, sockets_of, tuple_of,
 };
 use crate::turn_core::TurnCore;
-use crate::turn_handle::{CTurn, put, take};
+use crate::turn_handle::CTurn;
+use crate::turn_store::{put, take};
 use crate::turn_responses::{answer, refuse, refuse_types};
 use std::alloc::{AllocError, Global};
 use std::net::SocketAddr;
 use stun_types::attribute::ErrorCode;
+use stun_types::message::Message;
 use turn_attrs::attribute_types::DATA;
-use turn_server::{Action, Answer, Site, Sockets};
+use turn_server::{Action, Answer, Site, Sockets, judgments_are_so};
 use turn_table::FiveTuple;
 
 /// What C does for a client's datagram.
@@ -41,28 +56,25 @@ pub struct CTurnAction {
     pub code: u32,
 }
 
-/// Nothing is done.
-const NOTHING: CTurnAction = CTurnAction {
-    relay: 0,
-    at: 0,
-    length: 0,
-    peer: NOWHERE,
-    kind: 0,
-    took: 0,
-    code: 0,
-};
+/// What C does if nothing else is due: nothing, or look for a key.
+fn of_kind(kind: u32) -> CTurnAction
+    ensures { result ≡ of_kind kind }
+{
+    CTurnAction {
+        relay: 0,
+        at: 0,
+        length: 0,
+        peer: NOWHERE,
+        kind,
+        took: 0,
+        code: 0,
+    }
+}
 
-/// Data goes to a peer.
-const TO_PEER: u32 = 2;
-
-/// A response goes back.
-const RESPONSE: u32 = 1;
-
-/// The keys of the user are needed.
-const NEEDS_KEY: u32 = 3;
-
-/// The offset of the data in a datagram that carries some: on a channel or in a Send indication.
-fn data_at(datagram: &[u8]) -> usize {
+/// The offset of the data in a datagram that carries some: on a channel, or in a Send indication.
+fn data_at(datagram: &[u8]) -> usize
+    ensures { result ≡ data_at datagram.now }
+{
     match datagram.first() {
         Some(first) if *first >= 0x40 => 4,
         _ => value_at(datagram, DATA),
@@ -70,15 +82,18 @@ fn data_at(datagram: &[u8]) -> usize {
 }
 
 /// What C does for an action, but for its response.
-fn done_in_c(action: &Action<'_>, datagram: &[u8]) -> CTurnAction {
+fn done_in_c(action: &Action<'_>, datagram: &[u8]) -> CTurnAction
+    ensures { IsDone action.now datagram.now result }
+{
     match action {
         Action::ToPeer { relay, peer, data } => CTurnAction {
             relay: *relay,
             at: data_at(datagram),
             length: data.len(),
             peer: address_of(*peer),
-            kind: TO_PEER,
-            ..NOTHING
+            kind: 2,
+            took: 0,
+            code: 0,
         },
         Action::Answered {
             answer: Answer::Allocated { relayed, .. },
@@ -86,58 +101,66 @@ fn done_in_c(action: &Action<'_>, datagram: &[u8]) -> CTurnAction {
             ..
         } => CTurnAction {
             relay: *relay,
+            at: 0,
+            length: 0,
             peer: address_of(*relayed),
+            kind: 0,
             took: 1,
-            ..NOTHING
+            code: 0,
         },
-        _ => NOTHING,
+        _ => of_kind(0),
     }
 }
 
-/// The error code of the response to a datagram, or 0.
-fn code_of(action: &Action<'_>) -> u32 {
-    match action {
-        Action::Refused(refusal) => u32::from(refusal.code()),
-        Action::Unknown(_) => u32::from(ErrorCode::UNKNOWN_ATTRIBUTE),
-        Action::Answered {
-            answer: Answer::Refused(code),
-            ..
-        } => u32::from(*code),
+/// The code of an answer that is an error.
+fn answer_code(answer: Answer) -> u16
+    ensures { result ≡ answer_code answer }
+{
+    match answer {
+        Answer::Refused(code) => code,
         _ => 0,
     }
 }
 
-/// Writes the response to a request, if it is due.
-fn respond_to(
-    alloc: Global,
-    core: &TurnCore,
-    now: u64,
-    client: SocketAddr,
-    datagram: &[u8],
-    action: &Action<'_>,
-    room: &mut [u8],
-    written: &mut usize,
-) -> CResult {
-    let request = match request_in(datagram) {
-        Ok(request) => request,
-        Err(answer) => return answer,
-    };
+/// The code of the response, if it is an error response.
+fn response_code(action: &Action<'_>) -> u16
+    ensures { result ≡ response_code action.now }
+{
     match action {
-        Action::Refused(refusal) => {
-            let access = &core.access;
-            refuse(
-                alloc, access, now, client, &request, *refusal, room, written,
-            )
-        }
-        Action::Unknown(accepted) => refuse_types(alloc, &request, accepted, room, written),
-        Action::Answered {
-            answer: given,
-            accepted,
-            ..
-        } => answer(
-            alloc, core, client, &request, *given, accepted, room, written,
-        ),
-        _ => plain(codes::OK),
+        Action::Refused(refusal) => refusal.code(),
+        Action::Unknown(_) => ErrorCode::UNKNOWN_ATTRIBUTE,
+        Action::Answered { answer, .. } => answer_code(*answer),
+        _ => 0,
+    }
+}
+
+/// What C does, if a response of some bytes is sent too.
+fn with_response(code: u16, written: usize, done: CTurnAction) -> CTurnAction
+    ensures { result ≡ with_response code written done }
+{
+    if written == 0 {
+        return done;
+    }
+    CTurnAction {
+        relay: done.relay,
+        at: done.at,
+        length: written,
+        peer: done.peer,
+        kind: 1,
+        took: done.took,
+        code: u32::from(code),
+    }
+}
+
+/// A request that is answered.
+fn answered_request(datagram: &[u8]) -> Message<'_>
+    requires { IsOfClass Request datagram.now }
+    ensures bytes { message_bytes result ≡ datagram.now }
+    ensures class { class_of (type_field datagram.now) ≡ Request }
+{
+    match Message::from_bytes(datagram) {
+        Ok(request) => request,
+        Err(_) => unreachable!(),
     }
 }
 
@@ -151,14 +174,81 @@ fn respond(
     action: &Action<'_>,
     room: &mut [u8],
     written: &mut usize,
-) -> CResult {
+) -> CResult
+    requires { IsAnswerable action.now datagram.now }
+    ensures { Responds core.now now client datagram.now action.now result
+        (record { slice = room.old; count = written.old })
+        (record { slice = room.new; count = written.new }) }
+{
     match action {
         Action::Dropped | Action::ToPeer { .. } => plain(codes::OK),
         Action::Binding => reply_to(datagram, client, room, written),
-        _ => respond_to(
-            alloc, core, now, client, datagram, action, room, written,
-        ),
+        Action::Refused(refusal) => {
+            let request = answered_request(datagram);
+            refuse(
+                alloc,
+                &core.access,
+                now,
+                client,
+                &request,
+                *refusal,
+                room,
+                written,
+            )
+        }
+        Action::Unknown(accepted) => {
+            let request = answered_request(datagram);
+            refuse_types(alloc, &request, accepted, room, written)
+        }
+        Action::Answered {
+            answer: given,
+            accepted,
+            ..
+        } => {
+            let request = answered_request(datagram);
+            answer(
+                alloc,
+                core,
+                client,
+                &request,
+                *given,
+                accepted,
+                room,
+                written,
+            )
+        }
     }
+}
+
+/// Takes a datagram: what `TurnServer` does for it.
+fn take_datagram<'d>(
+    alloc: Global,
+    core: &mut TurnCore,
+    now: u64,
+    client: SocketAddr,
+    tuple: &FiveTuple,
+    datagram: &'d [u8],
+    sockets: Sockets,
+    keys: &OneUser<'_>,
+) -> Result<Action<'d>, AllocError>
+    requires { tuple.now.client ≡ endpoint_of client }
+    ensures acts { IfOk result (Acts (site_in core.old now client (keys_of keys.now) sockets)
+        (setup_in core.old) tuple.now now datagram.now core.old.server.state
+        core.new.server.state) }
+    ensures same { IsSameServer core.old core.new }
+    ensures memory { asks_for_key core.old now client datagram.now ≡ false → IsOk result }
+    ensures err { OnErr result (core.new ≡ core.old) }
+{
+    let access = &core.access;
+    let site = Site {
+        policy: access.policy,
+        realm: access.realm.realm(),
+        sockets,
+    };
+    let nonces = access.nonces(now, client);
+    let peers = core.rules.peers();
+    core.server
+        .on_client_datagram(alloc, now, tuple, datagram, &site, &nonces, keys, &peers)
 }
 
 /// Takes a datagram, and writes the response, if one is due.
@@ -173,37 +263,71 @@ fn act(
     keys: &OneUser<'_>,
     room: &mut [u8],
     out: &mut CTurnAction,
-) -> CResult {
-    let site = Site {
-        policy: core.access.policy,
-        realm: core.access.realm.realm(),
-        sockets,
-    };
-    let nonces = core.access.nonces(now, client);
-    let peers = core.rules.peers();
-    let action = match core.server.on_client_datagram(
-        alloc, now, tuple, datagram, &site, &nonces, keys, &peers,
-    ) {
+) -> CResult
+    requires { tuple.now.client ≡ endpoint_of client }
+    ensures { ActsOn core.old now client tuple.now datagram.now (keys_of keys.now) sockets result
+        (record { core = Some core.old; slice = room.old; action = out.old })
+        (record { core = Some core.new; slice = room.new; action = out.new }) }
+{
+    judgments_are_so();
+    let action = match take_datagram(alloc, core, now, client, tuple, datagram, sockets, keys) {
         Ok(action) => action,
         Err(AllocError) => return plain(codes::OUT_OF_MEMORY),
     };
     let mut written = 0;
-    *out = done_in_c(&action, datagram);
     let result = respond(
         alloc, core, now, client, datagram, &action, room, &mut written,
     );
-    if written != 0 {
-        out.kind = RESPONSE;
-        out.length = written;
-        out.code = code_of(&action);
-    }
+    *out = with_response(response_code(&action), written, done_in_c(&action, datagram));
     result
 }
 
-/// Whether the keys of a user are needed for a datagram.
-fn needs_key(core: &TurnCore, now: u64, client: SocketAddr, datagram: &[u8]) -> bool {
+/// Whether what comes of a datagram depends on a key.
+fn asks_for_key(core: &TurnCore, now: u64, client: SocketAddr, datagram: &[u8]) -> bool
+    ensures { result ≡ asks_for_key core.now now client datagram.now }
+{
     let nonces = core.access.nonces(now, client);
     core.server.needs_key(datagram, core.access.policy, &nonces)
+}
+
+/// Takes a datagram, if no key is needed that wasn't looked up.
+fn take_known(
+    alloc: Global,
+    core: &mut TurnCore,
+    now: u64,
+    client: SocketAddr,
+    tuple: &FiveTuple,
+    datagram: &[u8],
+    sockets: Sockets,
+    looked_up: bool,
+    keys: &OneUser<'_>,
+    room: &mut [u8],
+    out: &mut CTurnAction,
+) -> CResult
+    requires { tuple.now.client ≡ endpoint_of client }
+    ensures { Takes (not looked_up && asks_for_key core.old now client datagram.now) core.old now
+        client tuple.now datagram.now (keys_of keys.now) sockets result
+        (record { core = Some core.old; slice = room.old; action = out.old })
+        (record { core = Some core.new; slice = room.new; action = out.new }) }
+{
+    if !looked_up && asks_for_key(core, now, client, datagram) {
+        *out = of_kind(3);
+        return plain(codes::OK);
+    }
+    act(
+        alloc, core, now, client, tuple, datagram, sockets, keys, room, out,
+    )
+}
+
+/// The keys that C looked up.
+fn user_of<'k>(md5_key: &'k SharedKey, sha256_key: &'k SharedKey) -> OneUser<'k>
+    ensures { keys_of result
+        ≡ keys_in_c (shared_key md5_key.now) (shared_key sha256_key.now) }
+{
+    OneUser {
+        md5: key_in(md5_key),
+        sha256: key_in(sha256_key),
+    }
 }
 
 /// Takes a client's datagram.
@@ -220,26 +344,23 @@ pub extern "C" fn stun_types_turn_client(
     sha256_key: &SharedKey,
     room: &mut [u8],
     action: &mut CTurnAction,
-) -> CResult {
-    *action = NOTHING;
+) -> CResult
+    ensures { TakesDatagram now from.now datagram.now ready.now looked_up (shared_key md5_key.now)
+        (shared_key sha256_key.now) result
+        (record { core = held_turn server.old; slice = room.old; action = nothing })
+        (record { core = held_turn server.new; slice = room.new; action = action.new }) }
+{
+    *action = of_kind(0);
     let (Some((client, tuple)), Some(sockets)) = (tuple_of(from), sockets_of(ready)) else {
         return plain(codes::BAD_ARGUMENT);
     };
     let Some(mut core) = take(server, alloc) else {
         return plain(codes::BAD_ARGUMENT);
     };
-    let result = if !looked_up && needs_key(&core, now, client, datagram) {
-        action.kind = NEEDS_KEY;
-        plain(codes::OK)
-    } else {
-        let keys = OneUser {
-            md5: key_in(md5_key),
-            sha256: key_in(sha256_key),
-        };
-        act(
-            alloc, &mut core, now, client, &tuple, datagram, sockets, &keys, room, action,
-        )
-    };
+    let keys = user_of(md5_key, sha256_key);
+    let result = take_known(
+        alloc, &mut core, now, client, &tuple, datagram, sockets, looked_up, &keys, room, action,
+    );
     put(server, core);
     result
 }

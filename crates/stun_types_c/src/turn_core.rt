@@ -1,8 +1,11 @@
 //! What the handle of a TURN server holds.
 
-use crate::password_algorithms::AlgorithmList;
+ghost use Rattle.std.specs.Prelude.{◌≡◌};
+ghost use Rattle.stun_authentication.specs.Nonces.{minting_of};
+ghost use Rattle.stun_types_c.specs.TurnTimes.{seconds_of};
+
 use std::net::SocketAddr;
-use stun_authentication::{NonceMaker, NoncesOf, Policy};
+use stun_authentication::{NonceMaker, NoncesOf, Policy, SecurityFeatures};
 use stun_types::attribute::{PasswordAlgorithmValue, Realm, Software};
 use turn_server::TurnServer;
 use turn_table::peers::{Peers, Prefix};
@@ -12,12 +15,13 @@ use turn_table::peers::{Peers, Prefix};
 pub(crate) struct Access {
     /// What makes its nonces.
     pub(crate) maker: NonceMaker,
+    /// What they say of it.
+    pub(crate) features: SecurityFeatures,
     /// The realm of its users.
     pub(crate) realm: Realm,
     /// Which requests are taken.
     pub(crate) policy: Policy,
-    /// Whether a nonce promises PASSWORD-ALGORITHMS, which then comes with it.
-    pub(crate) offers: bool,
+    ghost tied: { (minting_of maker).features ≡ features },
 }
 
 /// Which peers a server relays to.
@@ -33,7 +37,7 @@ pub(crate) struct PeerRules {
 
 /// A TURN server, with what C sets once.
 #[derive(Drop)]
-pub(crate) struct TurnCore {
+pub struct TurnCore {
     /// The allocations.
     pub(crate) server: TurnServer<16, 16>,
     /// How it authenticates.
@@ -44,14 +48,28 @@ pub(crate) struct TurnCore {
     pub(crate) rules: PeerRules,
 }
 
+/// The whole seconds of a time in nanoseconds.
+pub(crate) fn seconds(now: u64) -> u64
+    ensures { result ≡ seconds_of now }
+{
+    now / 1_000_000_000
+}
+
 /// The algorithms of a 401, the one that the server prefers first.
 const OFFERED: [PasswordAlgorithmValue; 2] =
     [PasswordAlgorithmValue::SHA256, PasswordAlgorithmValue::MD5];
 
 impl Access {
+    ghost use Rattle.std.specs.Prelude.{◌≡◌, ◌≤◌, length};
+    ghost use Rattle.stun_authentication.specs.Nonces.{minting_of, state_of};
+    ghost use Rattle.stun_types_c.specs.TurnServers.{offered, nonces_of};
+
     /// The password algorithms that are sent with each nonce.
-    pub(crate) fn algorithms(&self) -> &[PasswordAlgorithmValue] {
-        if self.offers {
+    pub(crate) fn algorithms(&self) -> &[PasswordAlgorithmValue]
+        ensures algorithms { result.now ≡ offered (minting_of self.now.maker).features }
+        ensures few { length result.now ≤ 2 }
+    {
+        if self.features.password_algorithms {
             &OFFERED
         } else {
             &[]
@@ -59,19 +77,23 @@ impl Access {
     }
 
     /// The nonces of a client, at a time in nanoseconds.
-    pub(crate) fn nonces(&self, now: u64, client: SocketAddr) -> NoncesOf<'_> {
+    pub(crate) fn nonces(&self, now: u64, client: SocketAddr) -> NoncesOf<'_>
+        ensures { state_of result ≡ nonces_of (minting_of self.now.maker) now client }
+    {
         self.maker.nonces(seconds(now), client, self.algorithms())
     }
 }
 
-/// The whole seconds of a time in nanoseconds.
-pub(crate) fn seconds(now: u64) -> u64 {
-    now / 1_000_000_000
-}
-
 impl PeerRules {
+    ghost use Rattle.std.specs.Prelude.{◌≡◌};
+    ghost use Rattle.turn_table.specs.Peers.{is_peer_allowed, is_port_allowed};
+    ghost use Rattle.stun_types_c.specs.TurnServers.{allows_peer, allows_port};
+
     /// The rules, as the table asks for them.
-    pub(crate) fn peers(&self) -> Peers<'_> {
+    pub(crate) fn peers(&self) -> Peers<'_>
+        ensures addresses { is_peer_allowed result ≡ allows_peer self.now }
+        ensures ports { is_port_allowed result ≡ allows_port self.now }
+    {
         Peers {
             denied: &self.denied,
             allowed: &self.allowed,

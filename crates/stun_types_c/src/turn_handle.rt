@@ -1,12 +1,11 @@
 //! A TURN server in the hands of C: `stun_types_turn` of the header.
 ghost use Rattle.std.specs.Prelude.{◌≡◌, Some, None, is_some, option_map, box_value};
-ghost use Rattle.stun_types_c.specs.TurnHandles.{holds_turn, held_turn};
+ghost use Rattle.stun_types_c.specs.TurnMarks.{holds_turn};
 
 use crate::box_parts::BoxParts;
 use crate::turn_core::TurnCore;
 use crate::turn_place::TurnPlace;
 use std::alloc::Global;
-use std::mem::replace;
 
 /// What `held` is if a handle holds a server: the letters `stunturn`.
 const HELD: u64 = 0x7374_756E_7475_726E;
@@ -48,7 +47,7 @@ impl CTurn {
     }
 
     /// The server that the handle holds, or `None`. Nothing is copied.
-    fn into_box(self) -> Option<Box<TurnCore>>
+    pub(crate) fn into_box(self) -> Option<Box<TurnCore>>
         ensures { option_map box_value result ≡ held_turn self }
     {
         let CTurn { place, held } = self;
@@ -66,19 +65,4 @@ impl Drop for CTurn {
     fn drop(self) {
         drop(self.into_box());
     }
-}
-
-/// Takes the server out of a handle, which then holds none.
-pub(crate) fn take(handle: &mut CTurn, alloc: Global) -> Option<Box<TurnCore>>
-    ensures taken { option_map box_value result ≡ held_turn handle.old }
-    ensures left { held_turn handle.new ≡ None }
-{
-    replace(handle, CTurn::none(alloc)).into_box()
-}
-
-/// Puts a server into a handle, and frees what it held before.
-pub(crate) fn put(handle: &mut CTurn, core: Box<TurnCore>)
-    ensures { held_turn handle.new ≡ Some (box_value core) }
-{
-    *handle = CTurn::of(core);
 }

@@ -64,3 +64,6 @@ impl TurnPlace {
         let TurnPlace { at: _, alloc: _ } = self;
     }
 }
+
+// As a key in its place: a server may go to another thread, and so may the right to free its memory.
+unsafe impl Send for TurnPlace {}

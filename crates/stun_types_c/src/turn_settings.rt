@@ -1,5 +1,20 @@
 //! Making a TURN server, and ending it.
 
+ghost use Rattle.std.specs.Prelude.{◌≡◌, ◌⊎◌, true, false, map, is_some, Some, None, IfOk, IsSomeAnd, MatchResult, MatchOption, box_value};
+ghost use Rattle.std.specs.Option.{option_map, option_or};
+ghost use Rattle.stun_attributes.specs.Texts.{text_bytes};
+ghost use Rattle.stun_keys.specs.Keys.{key_bytes};
+ghost use Rattle.stun_authentication.specs.Nonces.{minting, minting_of};
+ghost use Rattle.turn_table.specs.Runs.{begun};
+ghost use Rattle.stun_types_c.specs.Addresses.{socket_named};
+ghost use Rattle.stun_types_c.specs.CResults.{plain};
+ghost use Rattle.stun_types_c.specs.Codes.{OUT_OF_MEMORY, BAD_ARGUMENT};
+ghost use Rattle.stun_types_c.specs.KeyHandles.{shared_key};
+ghost use Rattle.stun_types_c.specs.Refusals.{text_answer};
+ghost use Rattle.stun_types_c.specs.TurnHandles.{held_turn};
+ghost use Rattle.stun_types_c.specs.TurnMaking.{settings_named, limits_named, prefix_named, all_named, key_answer, access_answer, rules_answer, making_answer, software_named, IsAccess, AreRules, IsMade, Makes};
+ghost use Rattle.stun_types_c.specs.Versions.{no_key};
+
 use crate::address::{Address, socket_of};
 use crate::authentication::{CPolicy, policy_of};
 use crate::call_result::{CResult, plain, write_result};
@@ -8,7 +23,8 @@ use crate::refusals::{features_of, realm_of};
 use crate::shared_key::SharedKey;
 use crate::stateless_nonces::maker_of;
 use crate::turn_core::{Access, PeerRules, TurnCore};
-use crate::turn_handle::{CTurn, put};
+use crate::turn_handle::CTurn;
+use crate::turn_store::put;
 use crate::values::text_in;
 use crate::versions::NoKey;
 use std::alloc::{AllocError, Global};
@@ -57,18 +73,24 @@ pub struct CPrefix {
 
 /// A handle that holds no server, as C declares it: the words of `CTurn`.
 #[unsafe(no_mangle)]
-pub extern "C" fn stun_types_turn_none() -> NoKey {
+pub extern "C" fn stun_types_turn_none() -> NoKey
+    ensures { result ≡ no_key }
+{
     NoKey { at: 0, held: 0 }
 }
 
 /// Ends the server that a handle holds. Of one that holds none it does nothing.
 #[unsafe(no_mangle)]
-pub extern "C" fn stun_types_turn_free(alloc: Global, server: &mut CTurn) {
+pub extern "C" fn stun_types_turn_free(alloc: Global, server: &mut CTurn)
+    ensures { held_turn server.new ≡ None }
+{
     *server = CTurn::none(alloc);
 }
 
 /// The prefix that C's form names.
-fn prefix_of(named: &CPrefix) -> Option<Prefix> {
+fn prefix_of(named: &CPrefix) -> Option<Prefix>
+    ensures { result ≡ prefix_named named.now }
+{
     if named.length > 128 {
         return None;
     }
@@ -77,10 +99,16 @@ fn prefix_of(named: &CPrefix) -> Option<Prefix> {
 }
 
 /// The prefixes that C's forms name.
-fn prefixes_of(alloc: Global, named: &[CPrefix]) -> Result<Vec<Prefix>, CResult> {
+fn prefixes_of(alloc: Global, named: &[CPrefix]) -> Result<Vec<Prefix>, CResult>
+    ensures { MatchResult result
+        (λ each. (all_named prefix_named named.now ≡ true)
+        × (map prefix_named named.now ≡ map Some each.items))
+        (λ answer. ((all_named prefix_named named.now ≡ false) × (answer ≡ plain BAD_ARGUMENT))
+        ⊎ (answer ≡ plain OUT_OF_MEMORY)) }
+{
     let mut prefixes = Vec::new(alloc);
-    for one in named {
-        let Some(prefix) = prefix_of(one) else {
+    for i in 0..named.len() {
+        let Some(prefix) = prefix_of(&named[i]) else {
             return Err(plain(codes::BAD_ARGUMENT));
         };
         if prefixes.push(prefix).is_err() {
@@ -91,10 +119,16 @@ fn prefixes_of(alloc: Global, named: &[CPrefix]) -> Result<Vec<Prefix>, CResult>
 }
 
 /// The addresses that C's forms name.
-fn addresses_of(alloc: Global, named: &[Address]) -> Result<Vec<SocketAddr>, CResult> {
+fn addresses_of(alloc: Global, named: &[Address]) -> Result<Vec<SocketAddr>, CResult>
+    ensures { MatchResult result
+        (λ each. (all_named socket_named named.now ≡ true)
+        × (map socket_named named.now ≡ map Some each.items))
+        (λ answer. ((all_named socket_named named.now ≡ false) × (answer ≡ plain BAD_ARGUMENT))
+        ⊎ (answer ≡ plain OUT_OF_MEMORY)) }
+{
     let mut addresses = Vec::new(alloc);
-    for one in named {
-        let Some(address) = socket_of(one) else {
+    for i in 0..named.len() {
+        let Some(address) = socket_of(&named[i]) else {
             return Err(plain(codes::BAD_ARGUMENT));
         };
         if addresses.push(address).is_err() {
@@ -110,7 +144,13 @@ fn rules_of(
     denied: &[CPrefix],
     allowed: &[CPrefix],
     listening: &[Address],
-) -> Result<PeerRules, CResult> {
+) -> Result<PeerRules, CResult>
+    ensures { MatchResult result
+        (λ rules. (rules_answer denied.now allowed.now listening.now ≡ None)
+        × AreRules denied.now allowed.now listening.now rules)
+        (λ answer. (rules_answer denied.now allowed.now listening.now ≡ Some answer)
+        ⊎ (answer ≡ plain OUT_OF_MEMORY)) }
+{
     let denied = prefixes_of(alloc, denied)?;
     let allowed = prefixes_of(alloc, allowed)?;
     let listening = addresses_of(alloc, listening)?;
@@ -122,13 +162,18 @@ fn rules_of(
 }
 
 /// The SOFTWARE of C's bytes, or none of no bytes.
-fn software_of(alloc: Global, bytes: &[u8]) -> Result<Option<Software>, CResult> {
-    if bytes.is_empty() {
-        return Ok(None);
-    }
+fn software_of(alloc: Global, bytes: &[u8]) -> Result<Option<Software>, CResult>
+    ensures { MatchResult result
+        (λ software. (text_answer bytes.now ≡ None)
+        × (option_map text_bytes software ≡ software_named bytes.now))
+        (λ answer. (text_answer bytes.now ≡ Some answer) ⊎ (answer ≡ plain OUT_OF_MEMORY)) }
+{
     let Some(text) = text_in(bytes) else {
         return Err(plain(codes::INVALID_DATA));
     };
+    if bytes.is_empty() {
+        return Ok(None);
+    }
     match Software::new(alloc, text) {
         Ok(software) => Ok(Some(software)),
         Err(error) => Err(write_result(error)),
@@ -141,7 +186,14 @@ fn maker_with(
     secret: &SharedKey,
     features: SecurityFeatures,
     window: u64,
-) -> Result<NonceMaker, CResult> {
+) -> Result<NonceMaker, CResult>
+    ensures { MatchResult result
+        (λ maker. (key_answer (shared_key secret.now) ≡ None)
+        × IsSomeAnd (shared_key secret.now)
+        (λ key. minting_of maker ≡ minting (key_bytes key) features window))
+        (λ answer. (key_answer (shared_key secret.now) ≡ Some answer)
+        ⊎ ((key_answer (shared_key secret.now) ≡ None) × (answer ≡ plain OUT_OF_MEMORY))) }
+{
     match secret.key() {
         Some(key) => maker_of(alloc, key, features, window),
         None => Err(plain(codes::NO_KEY)),
@@ -149,7 +201,9 @@ fn maker_with(
 }
 
 /// The policy and the features of the settings.
-fn checked(settings: &CTurnSettings) -> Option<(Policy, SecurityFeatures)> {
+fn checked(settings: &CTurnSettings) -> Option<(Policy, SecurityFeatures)>
+    ensures { result ≡ settings_named settings.now }
+{
     if settings.reserved != 0 {
         return None;
     }
@@ -164,7 +218,14 @@ fn access_of(
     settings: &CTurnSettings,
     realm: &[u8],
     secret: &SharedKey,
-) -> Result<Access, CResult> {
+) -> Result<Access, CResult>
+    ensures { let key = shared_key secret.now in
+        MatchResult result
+        (λ access. (access_answer settings.now key realm.now ≡ None)
+        × IsAccess settings.now key realm.now access)
+        (λ answer. (access_answer settings.now key realm.now ≡ Some answer)
+        ⊎ (answer ≡ plain OUT_OF_MEMORY)) }
+{
     let Some((policy, features)) = checked(settings) else {
         return Err(plain(codes::BAD_ARGUMENT));
     };
@@ -174,12 +235,14 @@ fn access_of(
         maker,
         realm,
         policy,
-        offers: features.password_algorithms,
+        features,
     })
 }
 
 /// The bounds of the settings.
-fn limits_of(settings: &CTurnSettings) -> Limits {
+fn limits_of(settings: &CTurnSettings) -> Limits
+    ensures { result ≡ limits_named settings.now }
+{
     Limits {
         allocations: settings.allocations,
         of_user: settings.of_user,
@@ -196,7 +259,14 @@ fn core_of(
     access: Access,
     software: Option<Software>,
     rules: PeerRules,
-) -> Result<Box<TurnCore>, AllocError> {
+) -> Result<Box<TurnCore>, AllocError>
+    ensures { IfOk result (λ boxed. box_value boxed ≡ record {
+      server = record { limits = limits_named settings.now; state = begun };
+      access = access;
+      software = software;
+      rules = rules;
+    }) }
+{
     let server = TurnServer::new(alloc, limits_of(settings), settings.seed)?;
     let core = TurnCore {
         server,
@@ -217,7 +287,16 @@ fn made_of(
     denied: &[CPrefix],
     allowed: &[CPrefix],
     listening: &[Address],
-) -> Result<Box<TurnCore>, CResult> {
+) -> Result<Box<TurnCore>, CResult>
+    ensures { let key = shared_key secret.now in
+        let answer = making_answer settings.now key realm.now software.now denied.now allowed.now
+        listening.now in
+        MatchResult result
+        (λ boxed. (answer ≡ None)
+        × IsMade settings.now key realm.now software.now denied.now allowed.now listening.now
+        (box_value boxed))
+        (λ why. (answer ≡ Some why) ⊎ (why ≡ plain OUT_OF_MEMORY)) }
+{
     let access = access_of(alloc, settings, realm, secret)?;
     let software = software_of(alloc, software)?;
     let rules = rules_of(alloc, denied, allowed, listening)?;
@@ -239,7 +318,10 @@ pub extern "C" fn stun_types_turn_new(
     denied: &[CPrefix],
     allowed: &[CPrefix],
     listening: &[Address],
-) -> CResult {
+) -> CResult
+    ensures { Makes settings.now (shared_key secret.now) realm.now software.now denied.now
+        allowed.now listening.now result (held_turn server.old) (held_turn server.new) }
+{
     match made_of(
         alloc, settings, realm, software, secret, denied, allowed, listening,
     ) {

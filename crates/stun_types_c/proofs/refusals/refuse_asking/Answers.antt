@@ -5,4 +5,5 @@ pub returns-in-Ok-challenge_with : goal.returns-in-Ok-challenge_with
 returns-in-Ok-challenge_with c =
     let texts = c.in-Ok.ensures in
     let asked = c.in-Ok-challenge_with.ensures in
-    asks _ _ _ c.write_refusal.result _ _ texts.0 (rw texts.2 at asked.0) (rw (asked.1, texts.1, texts.2) at c.write_refusal.ensures)
+    let listed = c.as_slice.ensures.algorithms in
+    asks _ _ _ c.write_refusal.result _ _ texts.0 (rw (texts.2, listed) at asked.0) (rw (asked.1, texts.1, texts.2, listed) at c.write_refusal.ensures)

@@ -11,4 +11,4 @@ returns c =
     let other : is_plain_type c.args.atype ≡ false = sym c.is_plain_type.ensures ∙ c.if-is_plain_type.false in
     xored_added c.args.address.now c.in-Some-Ok.addr c.xor_addr-xored.result c.args.atype c.transaction_id.result c.add_socket.result
     (record { slice = c.args.room.now; count = c.args.written.now }) (record { slice = c.add_socket.new.room; count = c.add_socket.new.written })
-    other c.in-Some-Ok.ensures c.in-Some-Ok.ensures'.0 id-is c.xor_addr-xored.ensures.xored c.add_socket.ensures
+    other c.in-Some-Ok.ensures.named c.in-Some-Ok.ensures'.0 id-is c.xor_addr-xored.ensures.xored c.add_socket.ensures

@@ -1,0 +1,10 @@
+use Rattle.std.proofs.Common.{◌≡◌, true, take, map}
+use Rattle.std.specs.Prelude.{Some}
+use Rattle.stun_types_c.specs.TurnMaking.{prefix_named, all_named}
+use Rattle.stun_types_c.proofs.turn_settings.prefixes_of.Given as goal
+
+-- those before are named
+abbrev pub invariant-loop-i : goal.invariant-loop-i
+invariant-loop-i l =
+    (map prefix_named (take l.i l.named) ≡ map Some l.prefixes.items)
+    × (all_named prefix_named (take l.i l.named) ≡ true)

@@ -1,0 +1,63 @@
+-- Where datagrams of TURN come from, and the sockets that C has ready.
+use Rattle.std.specs.Prelude.{◌≡◌, ℕ, replicate, Option, None, Some, option_and_then, ◌==◌, if◌then◌else◌}
+use Rattle.std.specs.Option.{option_map}
+use Rattle.std.specs.declared.net.socket_addr.SocketAddr.{SocketAddr}
+use Rattle.turn_table.specs.declared.endpoints.Endpoint.{Endpoint}
+use Rattle.turn_table.specs.declared.endpoints.FiveTuple.{FiveTuple}
+use Rattle.turn_server.specs.Addresses.{endpoint_of}
+use Rattle.turn_server.specs.Endpoints.{socket_of}
+use Rattle.turn_server.specs.declared.sockets.Ready.{Ready}
+use Rattle.turn_server.specs.declared.sockets.Sockets.{Sockets}
+use Rattle.stun_types_c.specs.declared.address.Address.{Address}
+use Rattle.stun_types_c.specs.declared.turn_addresses.CFiveTuple.{CFiveTuple}
+use Rattle.stun_types_c.specs.declared.turn_addresses.CTurnReady.{CTurnReady}
+use Rattle.stun_types_c.specs.Addresses.{socket_named, Holds}
+
+-- the protocol between a client and the server: UDP, or TCP for a stream
+abbrev pub transport_named : ℕ → Option ℕ
+transport_named stream =
+    if stream == 0 then Some 17 else (if stream == 1 then Some 6 else None)
+
+abbrev pub tuple_with : (client server : SocketAddr) → (transport : ℕ) → SocketAddr × FiveTuple
+tuple_with client server transport = (client, record {
+  client = endpoint_of client;
+  server = endpoint_of server;
+  transport = transport;
+})
+
+-- the client, and the 5-tuple, if C's form names one
+abbrev pub tuple_named : CFiveTuple → Option (SocketAddr × FiveTuple)
+tuple_named named =
+    option_and_then (λ client. option_and_then (λ server. option_map (tuple_with client server)
+    (transport_named named.stream)) (socket_named named.server)) (socket_named named.client)
+
+-- the address of a socket of a family, 4 or 6: family 0 says that there is none, and another one that C
+-- made a mistake
+abbrev pub ready_named : (family : ℕ) → Address → Option (Option Endpoint)
+ready_named family address =
+    if address.family == 0 then Some None else (
+    if address.family == family then option_map (λ a. Some (endpoint_of a)) (socket_named address)
+    else None)
+
+-- the sockets of a family that the server has, if it has some
+abbrev pub family_named : (family has : ℕ) → (any even : Address) → Option (Option Ready)
+family_named family has any even =
+    option_and_then (λ any. option_map (λ even.
+    if has == 0 then None else Some (record { any = any; even = even }))
+    (ready_named family even)) (ready_named family any)
+
+abbrev pub sockets_named : CTurnReady → Option Sockets
+sockets_named ready =
+    option_and_then (λ ipv4. option_map (λ ipv6. record { ipv4 = ipv4; ipv6 = ipv6 })
+    (family_named 6 ready.ipv6 ready.any_ipv6 ready.even_ipv6))
+    (family_named 4 ready.ipv4 ready.any_ipv4 ready.even_ipv4)
+
+-- C's form holds a 5-tuple
+pub record HoldsTuple (tuple : FiveTuple) (held : CFiveTuple) : Type 0 where
+  pub client_is : Holds (socket_of tuple.client) held.client
+  pub server_is : Holds (socket_of tuple.server) held.server
+  pub stream_is : held.stream ≡ (if tuple.transport == 17 then 0 else 1)
+
+-- no address
+abbrev pub nowhere : Address
+nowhere = record { octets = replicate 16 0; port = 0; family = 0 }

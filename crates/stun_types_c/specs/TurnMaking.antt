@@ -1,0 +1,126 @@
+-- How a TURN server is made by what C passes.
+use Rattle.std.specs.Prelude.{◌≡◌, ◌⊎◌, ℕ, Bool, not, ◌&&◌, List, length, map, Option, None, Some, is_some, IsSomeAnd, MatchOption, option_and_then, nat_lt, ◌==◌, if◌then◌else◌}
+use Rattle.std.specs.List.{list_all}
+use Rattle.std.specs.Option.{option_or, option_zip}
+use Rattle.std.specs.Result.{result_ok}
+use Rattle.std.specs.Net.Socket.{socket_ip}
+use Rattle.std.specs.declared.net.socket_addr.SocketAddr.{SocketAddr}
+use Rattle.stun_attributes.specs.Texts.{text_bytes}
+use Rattle.stun_keys.specs.declared.keys.integrity_key.IntegrityKey.{IntegrityKey}
+use Rattle.stun_keys.specs.Keys.{key_bytes}
+use Rattle.stun_authentication.specs.declared.cookie.SecurityFeatures.{SecurityFeatures}
+use Rattle.stun_authentication.specs.declared.policy.Policy.{Policy}
+use Rattle.stun_authentication.specs.Nonces.{minting, minting_of}
+use Rattle.turn_table.specs.declared.limits.Limits.{Limits}
+use Rattle.turn_table.specs.declared.peers.networks.Prefix.{Prefix}
+use Rattle.turn_table.specs.Networks.{prefix_of}
+use Rattle.turn_table.specs.Runs.{begun}
+use Rattle.stun_types_c.specs.declared.address.Address.{Address}
+use Rattle.stun_types_c.specs.declared.call_result.CResult.{CResult}
+use Rattle.stun_types_c.specs.declared.turn_core.Access.{Access}
+use Rattle.stun_types_c.specs.declared.turn_core.PeerRules.{PeerRules}
+use Rattle.stun_types_c.specs.declared.turn_core.TurnCore.{TurnCore}
+use Rattle.stun_types_c.specs.declared.turn_settings.CPrefix.{CPrefix}
+use Rattle.stun_types_c.specs.declared.turn_settings.CTurnSettings.{CTurnSettings}
+use Rattle.stun_types_c.specs.Addresses.{socket_named}
+use Rattle.stun_types_c.specs.Authentication.{policy_named}
+use Rattle.stun_types_c.specs.CResults.{plain, Refuses}
+use Rattle.stun_types_c.specs.Codes.{OK, OUT_OF_MEMORY, BAD_ARGUMENT, NO_KEY}
+use Rattle.stun_types_c.specs.Refusals.{features_named, text_answer}
+use Rattle.stun_types_c.specs.StatelessNonces.{secret_answer}
+use Rattle.stun_types_c.specs.TurnServers.{software_in}
+
+-- ---- What C passes
+
+-- the policy and the features of the settings
+abbrev pub settings_named : CTurnSettings → Option (Policy × SecurityFeatures)
+settings_named settings =
+    if settings.reserved == 0
+    then option_zip (policy_named settings.policy) (features_named settings.features) else None
+
+abbrev pub limits_named : CTurnSettings → Limits
+limits_named settings = record {
+  allocations = settings.allocations;
+  of_user = settings.of_user;
+  greatest_lifetime = settings.greatest_lifetime;
+  channel_permits = not (settings.channel_permits == 0);
+  old_channels = not (settings.old_channels == 0);
+}
+
+-- the prefix of an address, of at most 128 bits, if its other bits are 0
+abbrev pub prefix_named : CPrefix → Option Prefix
+prefix_named named =
+    if nat_lt 128 named.length then None
+    else option_and_then (λ a. result_ok (prefix_of (socket_ip a) named.length))
+    (socket_named named.address)
+
+-- whether each of them names one
+abbrev pub all_named : {A B : Type 0} → (A → Option B) → List A → Bool
+all_named name each = list_all (λ one. is_some (name one)) each
+
+-- ---- Why no server is made
+
+abbrev pub argument_answer : (fine : Bool) → Option CResult
+argument_answer fine = if fine then None else Some (plain BAD_ARGUMENT)
+
+-- there is no secret, or it is too short
+abbrev pub key_answer : Option IntegrityKey → Option CResult
+key_answer None = Some (plain NO_KEY)
+key_answer (Some key) = secret_answer (key_bytes key)
+
+abbrev pub access_answer : CTurnSettings → Option IntegrityKey → (realm : List ℕ) → Option CResult
+access_answer settings secret realm =
+    option_or (argument_answer (is_some (settings_named settings)))
+    (option_or (key_answer secret) (text_answer realm))
+
+abbrev pub rules_answer : (denied allowed : List CPrefix) → List Address → Option CResult
+rules_answer denied allowed listening =
+    argument_answer
+    (all_named prefix_named denied
+    && (all_named prefix_named allowed && all_named socket_named listening))
+
+-- the first of these
+abbrev pub making_answer : CTurnSettings → Option IntegrityKey → (realm software : List ℕ)
+    → (denied allowed : List CPrefix) → List Address → Option CResult
+making_answer settings secret realm software denied allowed listening =
+    option_or (access_answer settings secret realm)
+    (option_or (text_answer software) (rules_answer denied allowed listening))
+
+-- ---- The server
+
+-- its nonces, by a copy of the secret; its policy; and its realm
+pub record IsAccess (settings : CTurnSettings) (secret : Option IntegrityKey) (realm : List ℕ)
+    (access : Access) : Type 0 where
+  pub settings_are : settings_named settings ≡ Some (access.policy, access.features)
+  pub nonces_are : IsSomeAnd secret
+      (λ key. minting_of access.maker ≡ minting (key_bytes key) access.features settings.window)
+  pub realm_is : text_bytes access.realm ≡ realm
+
+-- the prefixes and the addresses that C names, in order
+pub record AreRules (denied allowed : List CPrefix) (listening : List Address) (rules : PeerRules)
+    : Type 0 where
+  pub denied_are : map prefix_named denied ≡ map Some rules.denied.items
+  pub allowed_are : map prefix_named allowed ≡ map Some rules.allowed.items
+  pub listening_are : map socket_named listening ≡ map Some rules.listening.items
+
+-- a text of no bytes: there is none
+abbrev pub software_named : List ℕ → Option (List ℕ)
+software_named text = if length text == 0 then None else Some text
+
+-- and it has no allocation
+pub record IsMade (settings : CTurnSettings) (secret : Option IntegrityKey) (realm software : List ℕ)
+    (denied allowed : List CPrefix) (listening : List Address) (core : TurnCore) : Type 0 where
+  pub empty : core.server ≡ record { limits = limits_named settings; state = begun }
+  pub access_is : IsAccess settings secret realm core.access
+  pub software_is : software_in core ≡ software_named software
+  pub rules_are : AreRules denied allowed listening core.rules
+
+-- a handle holds it, or the call returns why not, and the handle holds what it held
+abbrev pub Makes : CTurnSettings → Option IntegrityKey → (realm software : List ℕ)
+    → (denied allowed : List CPrefix) → List Address → CResult → (old new : Option TurnCore) → Type 0
+Makes settings secret realm software denied allowed listening result old new =
+    MatchOption (making_answer settings secret realm software denied allowed listening)
+    ((result ≡ plain OK)
+    × IsSomeAnd new (IsMade settings secret realm software denied allowed listening))
+    (λ answer. Refuses answer result old new)
+    ⊎ Refuses (plain OUT_OF_MEMORY) result old new
