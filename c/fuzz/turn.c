@@ -120,7 +120,7 @@ static void take_credentials(source *from, const stun_types_address *client) {
     made.features = model.settings.features;
     made.window = model.settings.window;
     made.client = client;
-    model_nonce(&made, now / SECOND - (how == 255 ? 601 : how == 254 ? 600 : 0), nonce);
+    model_nonce(&made, now / SECOND - (how >= 254 ? made.window + how % 2 : 0), nonce);
     if (how % 64 != 62) append(&message, 0x0006, texts[0].bytes, texts[0].length);
     else append(&message, 0x001E, hash, model_digest(STUN_TYPES_PASSWORD_SHA256, texts, 2, hash));
     append(&message, 0x0014, texts[1].bytes, texts[1].length);
@@ -391,7 +391,7 @@ static bool begin(source *from) {
     stun_types_answer answer;
     memset(&model, 0, sizeof model);
     memset(&settings, 0, sizeof settings);
-    settings.window = 600;
+    settings.window = how / 64 == 1 ? 30 : 600;
     settings.allocations = 1 + how % MODEL_TURN_ALLOCATIONS;
     settings.of_user = 1 + how / 4 % 2;
     settings.greatest_lifetime = how / 8 % 2 == 0 ? 3600 : 0;

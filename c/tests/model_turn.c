@@ -503,7 +503,7 @@ unsigned model_turn_peer(model_turn *turn, uint64_t now, uint64_t relayed,
         model_allocation *it = &turn->all[i];
         const model_lease *channel = channel_to(it, peer);
         const bool is_ipv4 = it->from.client.family == 4;
-        const size_t most = it->from.stream ? 65555 : is_ipv4 ? 65507 : 65527;
+        const size_t most = it->from.stream ? STUN_TYPES_GREATEST_MESSAGE : is_ipv4 ? 65507 : 65527;
         if (!is_live(turn, it) || it->relay != relayed || !is_permitted(turn, it, peer)) continue;
         head = channel != NULL ? 4 : peer->family == 4 ? 36 : 48;
         if (length > 65535 || head + length + (channel == NULL ? zeros : 0) > most) return 0;

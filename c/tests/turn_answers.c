@@ -233,7 +233,7 @@ static void test_families(void) {
 
 static void test_software(void) {
     turn_making it;
-    slice value, all;
+    slice value = {NULL, 0}, all;
     site_begin_alone("SOFTWARE");
     it = site_making();
     it.software = text("a server");
@@ -277,16 +277,25 @@ static void test_features(void) {
 
 /* A nonce is valid for a window, by the seconds of the clock. */
 static void test_window(void) {
-    turn_nonce nonce;
-    site_begin("the window of a nonce");
-    nonce = turn_nonce_at(&site.nonces, 1000, &site_client);
-    site_write_allocate(1);
-    turn_sign(&site.message, &site.alice, STUN_TYPES_PASSWORD_MD5, &nonce);
-    site_take(1601 * SECOND, site_datagram());
-    CHECK(site.action->code == 438 && site.action->took == 0);
-    site_take(1600 * SECOND + 999999999, site_datagram());
-    CHECK(site.action->code == 0 && site.action->took == 1);
-    site_end();
+    static const uint64_t windows[] = {600, 20, 0};
+    size_t i;
+    for (i = 0; i < COUNT(windows); i++) {
+        turn_making it;
+        turn_nonce nonce;
+        const uint64_t end = 1001 + windows[i];
+        site_begin_alone("the window of a nonce");
+        it = site_making();
+        it.settings.window = windows[i];
+        site_begin_by(&it);
+        nonce = turn_nonce_at(&site.nonces, 1000, &site_client);
+        site_write_allocate(1);
+        turn_sign(&site.message, &site.alice, STUN_TYPES_PASSWORD_MD5, &nonce);
+        site_take(end * SECOND, site_datagram());
+        CHECK(site.action->code == 438 && site.action->took == 0);
+        site_take(end * SECOND - 1, site_datagram());
+        CHECK(site.action->code == 0 && site.action->took == 1);
+        site_end();
+    }
 }
 
 /* ---- rooms that are too small */
