@@ -1,14 +1,12 @@
 -- What is answered where a user has a key.
 use Rattle.std.proofs.Common.{◌≡◌, ℕ, Bool, true, false, List, [], ◌∷◌, Option, Some, None, refl, sym, ap, subst, ◌∙◌}
-use Rattle.std.specs.Prelude.{◌&&◌, ◌||◌, not, is_some, unwrap_or, option_and_then}
+use Rattle.std.specs.Prelude.{◌&&◌, not, is_some, unwrap_or, option_and_then}
 use Rattle.std.specs.Borrow.{Bor}
-use Rattle.std.specs.Option.{option_map, option_map_or}
+use Rattle.std.specs.Option.{option_map}
 use Rattle.stun_grammar.specs.declared.integrity_algorithm.IntegrityAlgorithm.{IntegrityAlgorithm}
-use Rattle.stun_grammar.specs.AttributeTypes.{USERNAME, NONCE}
+use Rattle.stun_grammar.specs.AttributeTypes.{USERNAME}
 use Rattle.stun_grammar.specs.Headers.{type_field}
 use Rattle.stun_grammar.specs.Verdicts.{is_checked_type, verdict}
-use Rattle.stun_base.specs.declared.message_class.MessageClass.{MessageClass}
-use Rattle.stun_base.specs.declared.message_class.MessageClass.TheVariants.{Request}
 use Rattle.stun_base.specs.MessageTypes.{class_of, is_response}
 use Rattle.stun_keys.specs.declared.keys.integrity_key.IntegrityKey.{IntegrityKey}
 use Rattle.stun_keys.specs.Keys.{key_algorithm, key_bytes, IsKey}
@@ -22,7 +20,7 @@ use Rattle.stun_authentication.specs.declared.identity.Identity.TheVariants.{Nam
 use Rattle.stun_authentication.specs.declared.policy.Policy.{Policy}
 use Rattle.stun_authentication.specs.Answers.{Decision, refuse, discard, Tells, decided, accepted}
 use Rattle.stun_authentication.specs.Identities.{Who, named, who, value_of, named_in, identity_of}
-use Rattle.stun_authentication.specs.Lookups.{UserKey, key_made, key_held, IsKeyOf, Known, valid, unknown}
+use Rattle.stun_authentication.specs.Lookups.{UserKey, key_made, key_held, IsKeyOf, Known, valid}
 use Rattle.stun_authentication.specs.Policies.{is_taken, is_signed, is_signed_for, counted, proved_at, validated, proof_of, Proves}
 use Rattle.stun_authentication.specs.ShortTerm as short
 use Rattle.stun_authentication.specs.LongTerm as long

@@ -159,9 +159,23 @@ fn before_key<'a, 'n, N: Nonces>(
     })
 }
 
-/// Returns whether it depends on the key of its user what becomes of a request: whether none of the
-/// checks of [`authenticate_long_term`] decides that come before the key is looked up. It takes no
-/// memory.
+/// Returns whether what becomes of a request depends on the key of its user: none of the checks of
+/// [`authenticate_long_term`] decides that come before the key is looked up. A server whose look-up
+/// takes time asks this first. It takes no memory.
+///
+/// # Examples
+///
+/// ```
+/// use stun_authentication::{NonceMaker, Policy, SecurityFeatures, needs_key};
+/// use stun_types::message::{IntegrityKey, Message};
+///
+/// let secret = IntegrityKey::new(alloc, &[7; 32], None)?;
+/// let maker = NonceMaker::new(secret, SecurityFeatures::default(), 600)?;
+/// let nonces = maker.nonces(1000, "192.0.2.1:32853".parse()?, &[]);
+/// // A request that isn't signed is refused with 401, whoever sent it.
+/// let request = Message::from_bytes(b"\x00\x01\x00\x00\x21\x12\xA4\x42abcdefghijkl")?;
+/// assert!(rt; !needs_key(&request, Policy::default(), &nonces));
+/// ```
 pub fn needs_key<N: Nonces>(request: &Message<'_>, policy: Policy, nonces: &N) -> bool
     ensures { result ≡ needs_key policy (N.state_of nonces.now) (message_bytes request.now) }
 {

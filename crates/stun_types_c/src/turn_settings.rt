@@ -111,7 +111,7 @@ fn prefixes_of(alloc: Global, named: &[CPrefix]) -> Result<Vec<Prefix>, CResult>
         let Some(prefix) = prefix_of(&named[i]) else {
             return Err(plain(codes::BAD_ARGUMENT));
         };
-        match prefixes.push(prefix) {
+        match prefixes.push(prefix).map_err(AllocError::from) {
             Ok(()) => {}
             Err(AllocError) => return Err(plain(codes::OUT_OF_MEMORY)),
         }
@@ -132,7 +132,7 @@ fn addresses_of(alloc: Global, named: &[Address]) -> Result<Vec<SocketAddr>, CRe
         let Some(address) = socket_of(&named[i]) else {
             return Err(plain(codes::BAD_ARGUMENT));
         };
-        match addresses.push(address) {
+        match addresses.push(address).map_err(AllocError::from) {
             Ok(()) => {}
             Err(AllocError) => return Err(plain(codes::OUT_OF_MEMORY)),
         }

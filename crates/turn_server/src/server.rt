@@ -267,10 +267,10 @@ impl<const P: usize, const C: usize> TurnServer<P, C> {
         }
     }
 
-    /// Returns whether it depends on the key of its user what [`TurnServer::on_client_datagram`] does for
-    /// a datagram: it is a request to the table, and none of the checks decides that come before the key
-    /// is looked up (`stun_authentication::needs_key`). It takes no memory. Of anything but such a
-    /// request it reads no more than the header.
+    /// Returns whether what [`TurnServer::on_client_datagram`] does for a datagram depends on the key of
+    /// its user: it is a request to the table, and none of the checks decides that come before the key is
+    /// looked up (`stun_authentication::needs_key`). A server whose look-up takes time asks this first. It
+    /// takes no memory, and of anything but such a request it reads no more than the header.
     pub fn needs_key<N: Nonces>(&self, datagram: &[u8], policy: Policy, nonces: &N) -> bool
         ensures { result ≡ asks_for_key (last_channel self.now.limits.old_channels) policy
             (N.state_of nonces.now) datagram.now }
