@@ -18,7 +18,7 @@ import subprocess
 import sys
 import time
 
-from harness import Server, after, ask_once, free_port, is_closed
+from harness import Server, after, ask_once, free_port, in_own_network, is_closed
 from operators import HERE, folder_of, write
 from steps import PATIENCE, REQUEST, Skipped, check, run, wait_until
 
@@ -357,6 +357,15 @@ def bursts(programs):
             for source in relayed:
                 check([it[1] for it in heard if it[0] == source] == data, "the peer hears other data")
             ended(server)
+
+
+def small_packets(programs):
+    """The same if packets are shorter than some datagrams that would go together."""
+    def run_there():
+        status, _, told = run(["ip", "link", "set", "lo", "mtu", "1280"])
+        check(status == 0, told)
+        bursts(programs)
+    in_own_network(run_there)
 
 
 def nonsense(programs):
