@@ -19,6 +19,7 @@ import sys
 import time
 
 from harness import Server, after, ask_once, free_port, in_own_network, is_closed
+from manager import PASS_ON
 from operators import HERE, folder_of, write
 from steps import PATIENCE, REQUEST, Skipped, check, run, wait_until
 
@@ -752,6 +753,12 @@ def misused(programs):
             check(got == status and told in said, f"{given}: status {got}: {said}")
         got, said = start_at(programs, "0.0.0.0", right)
         check(got == 3 and "relay-address" in said, f"status {got}: {said}")
+        with socket.socket(socket.AF_INET, socket.SOCK_DGRAM) as passed:
+            passed.bind(("127.0.0.1", 0))
+            command = [sys.executable, "-c", PASS_ON, "1", str(passed.fileno()), programs["server"], "-j", "2"]
+            words = [word for it in ["turn=1", *right] for word in ("-o", it)]
+            got, _, said = run([*command, *words], pass_fds=[passed.fileno()])
+            check(got == 3 and "-j 1" in said, f"processes that share a socket: status {got}: {said}")
 
 
 def start_at(programs, address, settings):
