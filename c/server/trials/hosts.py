@@ -147,7 +147,7 @@ class Capture:
     def read(self):
         for line in self.ran.stdout:
             four, six, port, payload = line.rstrip("\n").split("\t")
-            self.seen.append((four or six, int(port), bytes.fromhex(payload)))
+            self.seen.append((four or six, int(port), bytes.fromhex(payload.replace(":", ""))))
 
     def catch_up(self):
         """Waits until tshark has seen all datagrams up to now."""

@@ -1,22 +1,18 @@
 """The servers that other people's clients are tried against: this one, or coturn in its place. Both serve
 UDP and TCP at the server's addresses, and relay there."""
-import base64
 import contextlib
 import dataclasses
-import hashlib
-import hmac
 import ipaddress
 import re
 import shutil
 import socket
 import subprocess
-import time
 import types
 
 from harness import free_port
 from hosts import SERVER
 from steps import REQUEST, Skipped, TOP, check, wait_until
-from turn import ended, turn_server
+from turn import ended, limited_name, turn_server
 
 REALM = "example.org"
 USER, PASSWORD = "alice", "wonderland"
@@ -33,11 +29,7 @@ class Settings:
 
     def credentials(self):
         """A name and a password."""
-        if not self.timed:
-            return USER, PASSWORD
-        name = f"{int(time.time()) + 3600}:{USER}"
-        digest = hmac.digest(SECRET.encode(), name.encode(), hashlib.sha1)
-        return name, base64.b64encode(digest).decode()
+        return limited_name(SECRET, 3600, USER) if self.timed else (USER, PASSWORD)
 
 
 def denied_prefixes():
