@@ -7,21 +7,22 @@
  *   addresses before all else: if it would write an argument that overlaps another one, it returns
  *   BAD_ARGUMENT, or false, or, if it counts, SIZE_MAX.
  * - No call keeps a pointer, prints, blocks or aborts. Only the calls whose comments say so
- *   allocate (by malloc), and at most twice the bytes of their arguments and 1,024 more at once.
- *   All may run in several threads at once. One key may be used by any number of calls at once
- *   that take it as const stun_types_key *; a call that takes it as stun_types_key * makes or
- *   frees it, and has it alone.
+ *   allocate (by malloc), and at most twice the bytes of their arguments and 1,024 more at once;
+ *   stun_types_turn_new allocates more. All may run in several threads at once. One key may be used
+ *   by any number of calls at once that take it as const stun_types_key *; a call that takes it as
+ *   stun_types_key * makes or frees it, and has it alone.
  * - Numbers in messages are big-endian; numbers in these structs are the machine's.
  * - Most calls return a stun_types_answer. If its code isn't STUN_TYPES_OK, the call writes nothing
  *   else, unless its comment says otherwise. If several codes apply, the answer has the one that the
  *   comment lists first; OUT_OF_MEMORY may come before the last of them.
  * - No zero permits anything. A verdict is a struct of type stun_types_validated,
- *   stun_types_authentication, stun_types_action or stun_types_received: a call that fails fills it
- *   with zeros, which say that nothing is decided. stun_types_transaction_begin does the same with its
- *   transaction. A stun_types_policy of zeros lets both algorithms count, as RFC 8489 does. If an
- *   argument of an enumeration has no meaning for 0, 0 is BAD_ARGUMENT.
+ *   stun_types_authentication, stun_types_action, stun_types_received, stun_types_turn_action or
+ *   stun_types_turn_delivery: a call that fails fills it with zeros, which say that nothing is
+ *   decided or done; of stun_types_turn_client see there. stun_types_transaction_begin does the same
+ *   with its transaction. A stun_types_policy of zeros lets both algorithms count, as RFC 8489 does.
+ *   If an argument of an enumeration has no meaning for 0, 0 is BAD_ARGUMENT.
  * - A password or a key of no bytes is BAD_ARGUMENT: anybody can sign with it.
- * - Arguments are tested. Only a key has to be what the library made (see Keys).
+ * - Arguments are tested. Only a key and a TURN server have to be what the library made (see Keys).
  * - The layout of the structs is part of the ABI. `reserved` is for fields of later versions: it is 0
  *   in what is passed in, or the call returns BAD_ARGUMENT, and 0 in what a call writes.
  */
@@ -1151,11 +1152,11 @@ stun_types_answer stun_types_write_channel_data(uint16_t channel, const void *da
 
 /* ---- A TURN server (RFC 8656) ------------------------------------------------------------------ */
 
-/* A TURN server without sockets and without a clock, on the heap: its allocations, with their permissions
-   and channels, at most 16 of each. It begins as STUN_TYPES_TURN_INIT, is made by stun_types_turn_new,
-   which frees what it held before, and ended by stun_types_turn_free. C neither reads nor writes nor
-   copies its fields; whether a struct holds a server is seen as with a key. Each call has it alone: one
-   server for each thread, or a lock. */
+/* A TURN server without sockets and without a clock, on the heap: its allocations, with their
+   permissions and channels, at most 16 of each. It begins as STUN_TYPES_TURN_INIT, is made by
+   stun_types_turn_new, which frees what it held before, and ended by stun_types_turn_free. C neither
+   reads nor writes nor copies its fields; whether a struct holds a server is seen as with a key. Each
+   call has it alone: one server for each thread, or a lock. */
 typedef struct {
     void *at;
     uint64_t held;
@@ -1174,30 +1175,35 @@ typedef struct {
     uint32_t allocations;       /* at most; one that has ended counts until a poll reports it */
     uint32_t of_user;           /* the most live allocations of one user */
     uint32_t greatest_lifetime; /* seconds; below 600 it counts as 600 */
-    uint32_t features;          /* as in stun_types_make_nonce. With STUN_TYPES_FEATURE_PASSWORD_ALGORITHMS
-                                   a 401 offers SHA-256 and then MD5 */
+    uint32_t features;          /* as in stun_types_make_nonce. With
+                                   STUN_TYPES_FEATURE_PASSWORD_ALGORITHMS a 401 offers SHA-256 and
+                                   then MD5 */
     uint32_t channel_permits;   /* not 0: a channel permits its exact peer as long as it lasts */
     uint32_t old_channels;      /* not 0: channels 0x5000 to 0x7FFF are allowed too (RFC 5766) */
     uint64_t reserved;
 } stun_types_turn_settings;
 
-/* Addresses whose first length bits are those of this one, which has no other bits. Its port is ignored. */
+/* Addresses whose first length bits are those of this one; its other bits are 0, and its port is
+   ignored. */
 typedef struct {
     stun_types_address address;
     uint16_t length;
 } stun_types_prefix;
 
-/* Makes a server with no allocation. It takes all memory that its table ever needs: some 2,000 bytes for each
-   allocation. realm and software are texts; a software of no bytes: responses have no SOFTWARE. secret makes
-   the nonces, as in stun_types_make_nonce; it is copied. denied, allowed: which peers clients may reach; the
-   longest prefix that contains an address decides, of equal ones denied, then allowed, then the default (see
-   TURN.md). listening: the addresses and ports that clients send to; each is denied.
-   The first of these: BAD_ARGUMENT: the settings; NO_KEY: there is no secret; BAD_ARGUMENT: it has fewer than
-   16 bytes; INVALID_DATA, TOO_LARGE: the realm, then the software isn't UTF-8, or has more than 763 bytes;
-   BAD_ARGUMENT: a family that is neither 4 nor 6, a prefix longer than an address of its family, or with
-   other bits. Allocates: OUT_OF_MEMORY. If the call fails, the server stays as it was. */
+/* Makes a server with no allocation. It takes all memory that its table ever needs: some 2,800 bytes
+   for each allocation. realm and software are texts; a software of no bytes: responses have no
+   SOFTWARE. secret makes the nonces, as in stun_types_make_nonce; it is copied. denied, allowed: which
+   peers clients may reach; the longest prefix that contains an address decides, of equal ones denied,
+   then allowed, then the default (see TURN.md). listening: the addresses and ports that clients send
+   to; each is denied.
+   The first of these: BAD_ARGUMENT: the settings. NO_KEY: there is no secret. BAD_ARGUMENT: it has
+   fewer than 16 bytes. INVALID_DATA, TOO_LARGE: the realm, and then the software, isn't UTF-8, or has
+   more than 763 bytes. BAD_ARGUMENT: a family is neither 4 nor 6; a prefix is longer than an address
+   of its family, or one of its other bits is 1. Allocates: OUT_OF_MEMORY. If the call fails, the
+   server stays as it was. */
 STUN_TYPES_NODISCARD STUN_TYPES_NONNULL((1, 2, 7))
-stun_types_answer stun_types_turn_new(stun_types_turn *server, const stun_types_turn_settings *settings,
+stun_types_answer stun_types_turn_new(stun_types_turn *server,
+                                      const stun_types_turn_settings *settings,
                                       const void *realm, size_t realm_length,
                                       const void *software, size_t software_length,
                                       const stun_types_key *secret,
@@ -1205,14 +1211,15 @@ stun_types_answer stun_types_turn_new(stun_types_turn *server, const stun_types_
                                       const stun_types_prefix *allowed, size_t allowed_count,
                                       const stun_types_address *listening, size_t listening_count);
 
-/* Ends the server and frees its memory, overwriting its secret. With STUN_TYPES_TURN_INIT it does nothing. */
+/* Ends the server and frees its memory, overwriting its secret. With STUN_TYPES_TURN_INIT it does
+   nothing. */
 STUN_TYPES_NONNULL((1))
 void stun_types_turn_free(stun_types_turn *server);
 
 /* Who sent a datagram, the address of the server that it came to, and by which transport. */
 typedef struct {
     stun_types_address client, server;
-    uint16_t stream; /* 0: UDP; 1: a stream (TCP, TLS), from which stun_types_stream_push cut the message */
+    uint16_t stream; /* 0: UDP; 1: TCP or TLS, cut into messages by stun_types_stream_push */
 } stun_types_five_tuple;
 
 /* The sockets that are ready for Allocate requests, by the addresses that clients get: family 0, none.
@@ -1226,35 +1233,38 @@ typedef struct {
 typedef STUN_TYPES_ENUM(stun_types_turn_kind) {
     STUN_TYPES_TURN_NOTHING = 0,  /* nothing is sent */
     STUN_TYPES_TURN_RESPONSE = 1, /* room[0 .. length) goes back to the client, from where it sent to */
-    STUN_TYPES_TURN_TO_PEER = 2,  /* datagram[at .. at + length) goes to `peer`, from the socket `relay` */
-    STUN_TYPES_TURN_NEEDS_KEY = 3 /* it is signed: find its user's keys, and call again with them */
+    STUN_TYPES_TURN_TO_PEER = 2,  /* datagram[at .. at + length) goes to peer, from the socket relay */
+    STUN_TYPES_TURN_NEEDS_KEY = 3 /* find the keys of the user, and call again with them */
 } stun_types_turn_kind;
 
 typedef struct {
-    uint64_t relay;            /* TO_PEER, and if took: the number of a socket */
-    size_t at, length;         /* in bytes */
-    stun_types_address peer;   /* TO_PEER; if took, the relayed address, that of the socket that was ready */
+    uint64_t relay;          /* TO_PEER, or if took is 1: the number of a socket */
+    size_t at, length;       /* in bytes */
+    stun_types_address peer; /* TO_PEER; if took is 1, the relayed address, that of the ready socket */
     stun_types_turn_kind kind;
-    uint32_t took;             /* 1: the socket with the address `peer` is an allocation's from now on, by
-                                  the number `relay`: have another one ready for the next call */
-    uint32_t code;             /* RESPONSE: the error code, or 0 if it is a success response */
+    uint32_t took;           /* 1: the socket with the address peer is an allocation's from now on, by
+                                the number relay: have another one ready for the next call */
+    uint32_t code;           /* RESPONSE: the error code, or 0 if it is a success response */
 } stun_types_turn_action;
 
-/* Takes a client's datagram: keeps what it changes, and says what is to be sent. now is a monotonic clock
-   of the caller's, in nanoseconds since any moment that stays the same; the nonces count its whole seconds.
+/* Takes a client's datagram: keeps what it changes, and says what is to be sent. now is a monotonic
+   clock of the caller's, in nanoseconds since any moment that stays the same; the nonces count its
+   whole seconds.
 
-   looked_up is false, and both keys hold none, when a datagram comes. If the kind is
-   STUN_TYPES_TURN_NEEDS_KEY, nothing has changed: it is a signed request, whose USERNAME or USERHASH
-   (stun_types_find) names the user. Call again with the same arguments, looked_up true, and the user's keys
-   by MD5 and by SHA-256 (stun_types_key_long_term). A key that holds none: there is no such user. If
-   looked_up is true the kind is never STUN_TYPES_TURN_NEEDS_KEY.
+   When a datagram comes, looked_up is false, and both keys may hold none. If the kind is
+   STUN_TYPES_TURN_NEEDS_KEY, nothing has changed: it is a signed request, and its USERNAME or USERHASH
+   (stun_types_find) names the user. Call again with the same arguments, looked_up true, and the user's
+   keys by MD5 and by SHA-256 (stun_types_key_long_term). If a key holds none, there is no such user.
+   With looked_up the kind is never STUN_TYPES_TURN_NEEDS_KEY.
 
-   A response is written into room. 1,000 bytes are enough for a realm and a software of 300 bytes together.
-   TOO_SMALL, OUT_OF_MEMORY: it isn't written, and the kind is STUN_TYPES_TURN_NOTHING. The request has taken
-   effect, though: relay, peer and took say what it took, and when the client sends it again it is answered.
-   INVALID_DATA: neither is there a response, since the key is of the other integrity algorithm.
-   BAD_ARGUMENT, if nothing has changed: there is no server, a family is neither 4 nor 6, an address that is
-   ready is of the other family, or stream is neither 0 nor 1. Allocates, but not for data. */
+   A response is written into room. 1,000 bytes have room for any, but for a 420 that lists more than
+   400 types. TOO_SMALL, OUT_OF_MEMORY: it isn't written, and the kind is STUN_TYPES_TURN_NOTHING. The
+   request has taken effect, though: relay, peer and took say which socket it took, and if the client
+   sends it again it is answered. INVALID_DATA: the same, since the key is made for the other integrity
+   algorithm. OUT_OF_MEMORY also if a key can't be copied: nothing has changed, and took is 0.
+   BAD_ARGUMENT, and nothing has changed: there is no server, a family is neither 4 nor 6, an address
+   that is ready is of the other family, or stream is neither 0 nor 1.
+   Allocates, but not for data that goes to a peer. */
 STUN_TYPES_NODISCARD STUN_TYPES_NONNULL((1, 3, 6, 8, 9, 12))
 stun_types_answer stun_types_turn_client(stun_types_turn *server, uint64_t now,
                                          const stun_types_five_tuple *from,
@@ -1262,34 +1272,36 @@ stun_types_answer stun_types_turn_client(stun_types_turn *server, uint64_t now,
                                          const stun_types_turn_ready *ready, bool looked_up,
                                          const stun_types_key *md5_key,
                                          const stun_types_key *sha256_key,
-                                         uint8_t *room, size_t size, stun_types_turn_action *action);
+                                         uint8_t *room, size_t size,
+                                         stun_types_turn_action *action);
 
 /* What to do with the data of a peer. */
 typedef struct {
     stun_types_five_tuple to;
-    uint16_t sends;       /* 1: head[size - head_length .. size), the data, padding zeros; 0: it is dropped */
-    uint16_t head_length; /* 4 on a channel; else 36, or 48 for a peer with an IPv6 address */
+    uint16_t sends;       /* 1: head[size - head_length .. size), the data, and padding zeros go to the
+                             client; 0: the data is dropped */
+    uint16_t head_length; /* 4 on a channel; otherwise 36, or 48 for a peer with an IPv6 address */
     uint16_t padding;     /* 0 to 3; on a channel over UDP 0 */
 } stun_types_turn_delivery;
 
 #define STUN_TYPES_TURN_HEAD 48
 
-/* Takes a datagram of data_length bytes, which came from `peer` to the socket `relay`. The data is neither
-   read nor moved: what comes before it is written at the end of head, of size bytes, at least
-   STUN_TYPES_TURN_HEAD. So receive at buffer + 48, and pass buffer as head. id: random; the transaction ID of
-   a Data indication. It is dropped if the socket is no live allocation's, if there is no permission for the
-   peer, or if the message is longer than the transport to the client takes: 65,507 bytes over UDP and IPv4,
-   65,527 over UDP and IPv6, and 65,552 on a stream.
-   BAD_ARGUMENT: there is no server, or a family that is neither 4 nor 6. TOO_SMALL: head is shorter. */
+/* Takes a datagram of data_length bytes, which came from peer to the socket relay. The data is neither
+   read nor moved: what comes before it is written at the end of head, which has size bytes, at least
+   STUN_TYPES_TURN_HEAD. So receive at buffer + 48, and pass buffer and 48. id: random; the transaction
+   ID of a Data indication. The data is dropped if the socket is no live allocation's, if there is no
+   permission for the peer, or if the message is longer than the transport to the client takes: 65,507
+   bytes over UDP and IPv4, 65,527 over UDP and IPv6, and 65,552 on a stream. It allocates nothing.
+   BAD_ARGUMENT: there is no server, or a family is neither 4 nor 6. TOO_SMALL: head is shorter. */
 STUN_TYPES_NODISCARD STUN_TYPES_NONNULL((1, 3, 6, 9))
 stun_types_answer stun_types_turn_peer(stun_types_turn *server, uint64_t now,
                                        const stun_types_address *peer, uint64_t relay,
-                                       size_t data_length, const stun_types_id *id,
-                                       uint8_t *head, size_t size, stun_types_turn_delivery *delivery);
+                                       size_t data_length, const stun_types_id *id, uint8_t *head,
+                                       size_t size, stun_types_turn_delivery *delivery);
 
-/* Ends allocations whose time is over, at most room of them, and writes the numbers of their sockets, to be
-   closed. Returns how many; if that is less than room, none is left. Without a server it is 0. Call it once a
-   second. */
+/* Ends allocations whose time is over, at most room of them, and writes the numbers of their sockets,
+   to be closed. Returns how many; if that is less than room, none is left. Without a server it is 0.
+   Call it once a second. */
 STUN_TYPES_NODISCARD STUN_TYPES_NONNULL((1))
 size_t stun_types_turn_poll(stun_types_turn *server, uint64_t now, uint64_t *ended, size_t room);
 

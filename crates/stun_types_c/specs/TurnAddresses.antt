@@ -19,11 +19,14 @@ transport_named stream =
     if stream == 0 then Some 17 else (if stream == 1 then Some 6 else None)
 
 abbrev pub tuple_with : (client server : SocketAddr) → (transport : ℕ) → SocketAddr × FiveTuple
-tuple_with client server transport = (client, record {
-  client = endpoint_of client;
-  server = endpoint_of server;
-  transport = transport;
-})
+tuple_with client server transport = (
+  client,
+  record {
+    client = endpoint_of client;
+    server = endpoint_of server;
+    transport = transport;
+  },
+)
 
 -- the client, and the 5-tuple, if C's form names one
 abbrev pub tuple_named : CFiveTuple → Option (SocketAddr × FiveTuple)

@@ -1,5 +1,5 @@
 -- What a TURN server does for a client's datagram, as C sees it.
-use Rattle.std.specs.Prelude.{◌≡◌, ◌⊎◌, ℕ, Bool, true, false, not, ◌&&◌, List, length, slice_index, Option, None, Some, MatchOption, IsSomeAnd, nat_le, ◌==◌, if◌then◌else◌}
+use Rattle.std.specs.Prelude.{◌≡◌, ◌⊎◌, ℕ, ◌+◌, Bool, true, false, not, ◌&&◌, List, length, slice_index, slice_range, Option, None, Some, MatchOption, IsSomeAnd, nat_le, ◌==◌, if◌then◌else◌}
 use Rattle.std.specs.Option.{option_zip}
 use Rattle.std.specs.declared.net.socket_addr.SocketAddr.{SocketAddr}
 use Rattle.stun_attributes.specs.Texts.{text_bytes}
@@ -22,7 +22,7 @@ use Rattle.turn_server.specs.Endpoints.{socket_of}
 use Rattle.turn_server.specs.Judging.{needs_key}
 use Rattle.turn_server.specs.Judgments.{IsOfClass}
 use Rattle.turn_server.specs.declared.action.Action.{Action}
-use Rattle.turn_server.specs.declared.action.Action.TheVariants.{Dropped, Binding, Refused, Unknown, Answered, ToPeer}
+use Rattle.turn_server.specs.declared.action.Action.TheVariants.{Binding, Refused, Unknown, Answered, ToPeer}
 use Rattle.turn_server.specs.declared.answer.Answer.{Answer}
 use Rattle.turn_server.specs.declared.answer.Answer.TheVariants.{Allocated, Refused as NotDone}
 use Rattle.turn_server.specs.declared.sockets.Sockets.{Sockets}
@@ -55,6 +55,10 @@ nothing = of_kind 0
 -- where data in d begins: on a channel after four bytes, otherwise as the value of DATA
 abbrev pub data_at : List ℕ → ℕ
 data_at d = if nat_le 0x40 (slice_index d 0) then 4 else value_at DATA d
+
+-- these bytes of d begin there
+abbrev pub StandAt : (at : ℕ) → (bytes d : List ℕ) → Type 0
+StandAt at bytes d = slice_range d at (at + length bytes) ≡ bytes
 
 -- data goes to a peer from a socket
 abbrev pub sending : (relay : ℕ) → Address → (at length : ℕ) → CTurnAction

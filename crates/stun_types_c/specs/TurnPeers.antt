@@ -1,5 +1,5 @@
 -- What a TURN server does for a peer's datagram, as C sees it (RFC 8656, sections 11.3 and 12.7).
-use Rattle.std.specs.Prelude.{◌≡◌, ℕ, ◌-◌, ◌≤◌, Bool, true, false, not, ◌&&◌, List, ◌++◌, length, take, drop, replicate, Option, None, Some, is_some, MatchOption, IsSomeAnd, nat_lt, ◌==◌, if◌then◌else◌}
+use Rattle.std.specs.Prelude.{◌≡◌, ℕ, Bool, true, false, List, length, Option, None, Some, MatchOption, IsSomeAnd, nat_lt, if◌then◌else◌}
 use Rattle.std.specs.declared.net.socket_addr.SocketAddr.{SocketAddr}
 use Rattle.stun_grammar.specs.Numbers.{number}
 use Rattle.turn_table.specs.declared.reply.ToClient.{ToClient}

@@ -20,7 +20,6 @@ use Rattle.turn_table.specs.Peers.{allows_address, is_own}
 use Rattle.turn_server.specs.Addresses.{endpoint_of}
 use Rattle.turn_server.specs.declared.sockets.Sockets.{Sockets}
 use Rattle.turn_server.specs.Judging.{Site}
-use Rattle.stun_types_c.specs.declared.turn_core.Access.{Access}
 use Rattle.stun_types_c.specs.declared.turn_core.PeerRules.{PeerRules}
 use Rattle.stun_types_c.specs.declared.turn_core.TurnCore.{TurnCore}
 use Rattle.stun_types_c.specs.TurnTimes.{seconds_of}

@@ -89,6 +89,7 @@ pub use keys::stun_types_userhash;
 pub use known_types::stun_types_known_types;
 pub use laws::asked_texts_stand_where_they_are_reported;
 pub use laws::found_value_stands_where_it_is_reported;
+pub use laws::sent_data_stands_where_it_is_reported;
 pub use many_transactions::stun_types_transaction_round_trip;
 pub use many_transactions::stun_types_transactions_find;
 pub use many_transactions::stun_types_transactions_next;

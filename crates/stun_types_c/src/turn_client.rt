@@ -21,13 +21,11 @@ use crate::challenges::value_at;
 use crate::codes;
 use crate::server::reply_to;
 use crate::shared_key::SharedKey;
-use crate::turn_addresses::{
-    CFiveTuple, CTurnReady, NOWHERE, address_of, sockets_of, tuple_of,
-};
+use crate::turn_addresses::{CFiveTuple, CTurnReady, NOWHERE, address_of, sockets_of, tuple_of};
 use crate::turn_core::TurnCore;
 use crate::turn_handle::CTurn;
-use crate::turn_store::{put, take};
 use crate::turn_responses::{answer, refuse, refuse_types};
+use crate::turn_store::{put, take};
 use std::alloc::{AllocError, Global};
 use std::net::SocketAddr;
 use stun_types::attribute::ErrorCode;
@@ -207,14 +205,7 @@ fn respond(
         } => {
             let request = answered_request(datagram);
             answer(
-                alloc,
-                core,
-                client,
-                &request,
-                *given,
-                accepted,
-                room,
-                written,
+                alloc, core, client, &request, *given, accepted, room, written,
             )
         }
     }
@@ -276,9 +267,20 @@ fn act(
     };
     let mut written = 0;
     let result = respond(
-        alloc, core, now, client, datagram, &action, room, &mut written,
+        alloc,
+        core,
+        now,
+        client,
+        datagram,
+        &action,
+        room,
+        &mut written,
     );
-    *out = with_response(response_code(&action), written, done_in_c(&action, datagram));
+    *out = with_response(
+        response_code(&action),
+        written,
+        done_in_c(&action, datagram),
+    );
     result
 }
 

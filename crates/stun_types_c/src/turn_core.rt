@@ -56,8 +56,10 @@ pub(crate) fn seconds(now: u64) -> u64
 }
 
 /// The algorithms of a 401, the one that the server prefers first.
-const OFFERED: [PasswordAlgorithmValue; 2] =
-    [PasswordAlgorithmValue::SHA256, PasswordAlgorithmValue::MD5];
+const OFFERED: [PasswordAlgorithmValue; 2] = [
+    PasswordAlgorithmValue::SHA256,
+    PasswordAlgorithmValue::MD5,
+];
 
 impl Access {
     ghost use Rattle.std.specs.Prelude.{◌≡◌, ◌≤◌, length};

@@ -239,16 +239,7 @@ pub extern "C" fn stun_types_turn_peer(
         return plain(codes::BAD_ARGUMENT);
     };
     let id = TransactionId::from_bytes(&id.bytes);
-    let result = receive_in(
-        &mut core,
-        now,
-        relay,
-        peer,
-        data_length,
-        id,
-        head,
-        delivery,
-    );
+    let result = receive_in(&mut core, now, relay, peer, data_length, id, head, delivery);
     put(server, core);
     result
 }

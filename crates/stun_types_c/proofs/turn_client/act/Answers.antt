@@ -1,4 +1,4 @@
-use Rattle.std.proofs.Common.{Some, refl, ap, ◌∙◌, inl, inr}
+use Rattle.std.proofs.Common.{Some, ap, ◌∙◌, inl, inr}
 use Rattle.stun_types_c.specs.TurnClients.{with_response, asks_for_key}
 use Rattle.stun_types_c.specs.TurnServers.{setup_in, site_in}
 use Rattle.stun_types_c.specs.Users.{keys_of}
@@ -7,8 +7,10 @@ use Rattle.stun_types_c.proofs.turn_client.act.Goals as goal
 
 pub returns-in-Err : goal.returns-in-Err
 returns-in-Err c =
-    inl (key_asked (asks_for_key c.args.core.now c.args.now c.args.client c.args.datagram.now) c.take_datagram.result c.in-Err.field-0 c.take_datagram.ensures.memory c.in-Err.is,
-    (c.plain.ensures, (λ i. record { core = Some (c.in-Err.ensures.err i); slice = c.args.room.now; action = c.args.out.now })))
+    inl (
+      key_asked (asks_for_key c.args.core.now c.args.now c.args.client c.args.datagram.now) c.take_datagram.result c.in-Err.field-0 c.take_datagram.ensures.memory c.in-Err.is,
+      (c.plain.ensures, (λ i. record { core = Some (c.in-Err.ensures.err i); slice = c.args.room.now; action = c.args.out.now })),
+    )
 
 pub respond-result-requires : goal.respond-result-requires
 respond-result-requires c =

@@ -1,4 +1,4 @@
-use Rattle.std.proofs.Common.{◌≡◌, ℕ, List, Some, None, refl, ap, subst, ◌∙◌, inr}
+use Rattle.std.proofs.Common.{◌≡◌, ℕ, Some, None, refl, ap, subst, ◌∙◌, inr}
 use Rattle.stun_attributes.specs.Texts.{text_bytes}
 use Rattle.stun_types.specs.Message.{message_bytes}
 use Rattle.stun_values.specs.Addresses.{address_value}
