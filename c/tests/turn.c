@@ -29,6 +29,8 @@ static void check_no_server(const char *name, uint8_t byte) {
         turn_from_peer(site.server, 0, 0, &site_peer, 3, &id, head, STUN_TYPES_TURN_HEAD, delivery),
         PLAIN(STUN_TYPES_BAD_ARGUMENT));
     CHECK(is_untouched(head, STUN_TYPES_TURN_HEAD) && is_zero(delivery, sizeof *delivery));
+    ANSWERS(turn_from_peer(site.server, 0, 0, &site_peer, 3, &id, room(0), 0, delivery),
+            PLAIN(STUN_TYPES_BAD_ARGUMENT));
     ended = (uint64_t *)(void *)room(8);
     CHECK(stun_types_turn_poll(site.server, 0, ended, 1) == 0);
     CHECK(is_untouched(ended, 8));

@@ -81,6 +81,9 @@ static void test_peer_arguments(void) {
                                STUN_TYPES_TURN_HEAD, delivery),
                 PLAIN(STUN_TYPES_BAD_ARGUMENT));
         CHECK(is_untouched(head, STUN_TYPES_TURN_HEAD) && is_zero(delivery, sizeof *delivery));
+        ANSWERS(turn_from_peer(site.server, 0, site.action->relay, &address, 3, &id, room(0), 0,
+                               delivery),
+                PLAIN(STUN_TYPES_BAD_ARGUMENT));
         site_end();
     }
 }
@@ -99,9 +102,12 @@ static void test_needs_key(void) {
     bytes = site_datagram();
     for (i = 0; i < 2; i++) {
         memset(site.place, FILL, SITE_ROOM);
+        /* (keys that weren't looked up don't count) */
+        const stun_types_key *md5 = i == 0 ? no_key() : &site.alice.md5;
+        const stun_types_key *sha256 = i == 0 ? no_key() : &site.alice.sha256;
         ANSWERS(stun_types_turn_client(site.server, 700 * SECOND, site.from, bytes.bytes,
-                                       bytes.length, site.ready, false, no_key(), no_key(),
-                                       site.place, SITE_ROOM, site.action),
+                                       bytes.length, site.ready, false, md5, sha256, site.place,
+                                       SITE_ROOM, site.action),
                 OK_ANSWER);
         CHECK(site.action->kind == STUN_TYPES_TURN_NEEDS_KEY
               && is_untouched(site.place, SITE_ROOM));
@@ -111,7 +117,7 @@ static void test_needs_key(void) {
     site_take(0, bytes);
     CHECK(site.action->kind == STUN_TYPES_TURN_RESPONSE && site.action->code == 0
           && site.action->took == 1);
-    CHECK(site_refresh(599 * SECOND, 600) == 0);
+    CHECK(site_refresh(600 * SECOND, 600) == 437);
     call.server = site.server;
     call.from = site.from;
     call.ready = site.ready;
@@ -364,6 +370,44 @@ static void test_sizes(void) {
                 CHECK(answer.code == STUN_TYPES_TOO_SMALL && answer.actual == size
                       && answer.expected > size && answer.expected <= whole);
         }
+        site_end();
+    }
+}
+
+/* A room of 1,000 bytes is enough for the longest texts: a 401 with that realm, and the response to an
+   Allocate request with that software and all that it may have. */
+static void test_longest(void) {
+    size_t i;
+    for (i = 0; i < 2; i++) {
+        turn_making it;
+        turn_call call;
+        turn_nonce nonce;
+        slice value = {NULL, 0};
+        site_begin_alone(i == 0 ? "the longest realm" : "the longest software");
+        it = site_making();
+        if (i == 0) it.realm = hex("61*763");
+        else it.software = hex("61*763");
+        site_begin_by(&it);
+        site.from->client.family = 6;
+        nonce = turn_nonce_at(&site.nonces, 0, &site.from->client);
+        site_write_allocate(1);
+        turn_add_first(&site.message, STUN_TYPES_ATTRIBUTE_ADDITIONAL_ADDRESS_FAMILY, 2);
+        if (i == 1) turn_sign(&site.message, &site.alice, STUN_TYPES_PASSWORD_SHA256, &nonce);
+        ANSWERS(stun_types_add_fingerprint(site.message.bytes, sizeof site.message.bytes,
+                                           &site.message.length),
+                OK_ANSWER);
+        call.server = site.server;
+        call.from = site.from;
+        call.ready = site.ready;
+        call.room = room(1000);
+        call.size = 1000;
+        call.action = site.action;
+        ANSWERS(turn_take(&call, 0, site_datagram(), &site.alice), OK_ANSWER);
+        CHECK(site.action->kind == STUN_TYPES_TURN_RESPONSE
+              && site.action->code == (i == 0 ? 401u : 0u));
+        CHECK(turn_find(call.room, site.action->length,
+                        i == 0 ? STUN_TYPES_ATTRIBUTE_REALM : STUN_TYPES_ATTRIBUTE_SOFTWARE, &value)
+              && value.length == 763);
         site_end();
     }
 }
@@ -641,6 +685,7 @@ void test_turn_answers(void) {
     test_window();
     test_small_room();
     test_sizes();
+    test_longest();
     test_heads();
     test_padding();
     test_polls();
