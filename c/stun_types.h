@@ -1191,11 +1191,13 @@ typedef struct {
 } stun_types_prefix;
 
 /* Makes a server with no allocation. It takes all memory that its table ever needs: some 2,800 bytes
-   for each allocation. realm and software are texts; a software of no bytes: responses have no
-   SOFTWARE. secret makes the nonces, as in stun_types_make_nonce; it is copied. denied, allowed: which
-   peers clients may reach; the longest prefix that contains an address decides, of equal ones denied,
-   then allowed, then the default (see TURN.md). listening: the addresses and ports that clients send
-   to; each is denied.
+   for each allocation. realm and software are texts; software is the SOFTWARE of responses that are
+   signed but a 420, and with no bytes they have none. A reply to a Binding request has the library's,
+   as by stun_types_binding_reply, and a 400, 401, 420 or 438 has none. secret makes the nonces, as in
+   stun_types_make_nonce; it is copied. denied, allowed: which peers clients may reach; the longest
+   prefix that contains an address decides, of equal ones denied, then allowed, then the default
+   (DENIED_BY_DEFAULT of crates/turn_table). listening: the addresses and ports that clients send to;
+   each is denied.
    The first of these: BAD_ARGUMENT: the settings. NO_KEY: there is no secret. BAD_ARGUMENT: it has
    fewer than 16 bytes. INVALID_DATA, TOO_LARGE: the realm, and then the software, isn't UTF-8, or has
    more than 763 bytes. BAD_ARGUMENT: a family is neither 4 nor 6; a prefix is longer than an address

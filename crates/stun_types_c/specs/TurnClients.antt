@@ -98,12 +98,18 @@ abbrev pub answer_code : Answer → ℕ
 answer_code (NotDone code) = code
 answer_code _ = 0
 
--- the code of an error response; 0 of another one
-abbrev pub response_code : Action → ℕ
-response_code (Refused refusal) = refusal_code refusal
-response_code (Unknown accepted) = 420
-response_code (Answered answer took accepted) = answer_code answer
-response_code _ = 0
+-- a reply to a Binding request that is an error response is a 420: the second byte of its type is 0x11
+-- then (RFC 8489, section 5)
+abbrev pub binding_code : (reply : List ℕ) → ℕ
+binding_code reply = if slice_index reply 1 == 0x11 then 420 else 0
+
+-- the code of an error response, which is at the start of a slice; 0 of another one
+abbrev pub response_code : Action → (slice : List ℕ) → ℕ
+response_code Binding slice = binding_code slice
+response_code (Refused refusal) slice = refusal_code refusal
+response_code (Unknown accepted) slice = 420
+response_code (Answered answer took accepted) slice = answer_code answer
+response_code _ slice = 0
 
 -- d is a request, if it is answered as one, and the types that it shows are as the answer says
 abbrev pub IsAnswerable : Action → List ℕ → Type 0
@@ -156,7 +162,7 @@ pub record ActsInC (core : TurnCore) (now : ℕ) (client : SocketAddr) (tuple : 
   pub written : ℕ
   pub responds : Responds new now client d action result
       (record { slice = slice; count = 0 }) (record { slice = new_slice; count = written })
-  pub out_is : out ≡ with_response (response_code action) written done
+  pub out_is : out ≡ with_response (response_code action new_slice) written done
 
 -- whether what comes of d depends on a key
 abbrev pub asks_for_key : TurnCore → (now : ℕ) → (client : SocketAddr) → List ℕ → Bool

@@ -9,7 +9,7 @@ ghost use Rattle.turn_server.specs.Actions.{Acts};
 ghost use Rattle.turn_server.specs.Addresses.{endpoint_of};
 ghost use Rattle.turn_server.specs.Judgments.{IsOfClass};
 ghost use Rattle.stun_types_c.specs.KeyHandles.{shared_key};
-ghost use Rattle.stun_types_c.specs.TurnClients.{of_kind, nothing, data_at, IsDone, with_response, answer_code, response_code, IsAnswerable, Responds, IsSameServer, ActsOn, asks_for_key, Takes, keys_in_c, TakesDatagram};
+ghost use Rattle.stun_types_c.specs.TurnClients.{of_kind, nothing, data_at, IsDone, with_response, answer_code, binding_code, response_code, IsAnswerable, Responds, IsSameServer, ActsOn, asks_for_key, Takes, keys_in_c, TakesDatagram};
 ghost use Rattle.stun_types_c.specs.TurnHandles.{held_turn};
 ghost use Rattle.stun_types_c.specs.TurnServers.{setup_in, site_in};
 ghost use Rattle.stun_types_c.specs.Users.{keys_of};
@@ -120,11 +120,23 @@ fn answer_code(answer: Answer) -> u16
     }
 }
 
-/// The code of the response, if it is an error response.
-fn response_code(action: &Action<'_>) -> u16
-    ensures { result ≡ response_code action.now }
+/// The code of a reply to a Binding request, if it is an error response, which is a 420: the second byte
+/// of its type is 0x11 then (RFC 8489, section 5).
+fn binding_code(reply: &[u8]) -> u16
+    ensures { result ≡ binding_code reply.now }
+{
+    match reply.get(1) {
+        Some(second) if *second == 0x11 => ErrorCode::UNKNOWN_ATTRIBUTE,
+        _ => 0,
+    }
+}
+
+/// The code of the response at the start of a slice, if it is an error response.
+fn response_code(action: &Action<'_>, room: &[u8]) -> u16
+    ensures { result ≡ response_code action.now room.now }
 {
     match action {
+        Action::Binding => binding_code(room),
         Action::Refused(refusal) => refusal.code(),
         Action::Unknown(_) => ErrorCode::UNKNOWN_ATTRIBUTE,
         Action::Answered { answer, .. } => answer_code(*answer),
@@ -277,7 +289,7 @@ fn act(
         &mut written,
     );
     *out = with_response(
-        response_code(&action),
+        response_code(&action, room),
         written,
         done_in_c(&action, datagram),
     );
