@@ -1,12 +1,7 @@
 -- The rows of a table.
 use Rattle.std.proofs.Common.{◌≡◌, Bool, true, false, List, [], ◌∷◌, refl, ◌∙◌}
-use Rattle.std.specs.Prelude.{◌||◌}
 use Rattle.std.specs.List.{AllByRecursion}
 use Rattle.stun_authentication.specs.Answers.{Decision, Row, decides, decided}
-
-pub neither : (b c : Bool) → (b || c) ≡ false → (b ≡ false) × (c ≡ false)
-neither true c e = absurd cc
-neither false c e = (refl, e)
 
 next : (c : Bool) (x : Decision) (rows : List Row) (otherwise : Decision) → c ≡ false → decided ((c, x) ∷ rows) otherwise ≡ decided rows otherwise
 next true x rows otherwise e = absurd cc
