@@ -1,14 +1,17 @@
 """What bench/servers and bench/relays share: servers that are started, and what they take of the machine."""
+import contextlib
 import os
 import pathlib
 import re
 import socket
 import subprocess
 import sys
+import time
 
 HERE = pathlib.Path(__file__).resolve().parent
 TOP = HERE.parent
 ARCHIVE = TOP / "crates/stun_types_c/out/libstun_types_c.a"
+REQUEST = bytes.fromhex("000100002112A442") + b"bench/server"  # a binding request
 COTURN_QUIET = ["--no-tls", "--no-dtls", "--no-cli", "--log-file", "/dev/null", "--no-stdout-log"]
 
 
@@ -29,8 +32,31 @@ def free_port(address):
         return str(probe.getsockname()[1])
 
 
+def answers(address, port, stream):
+    """Whether a server answers a request within a moment, over UDP and, if asked so, over TCP."""
+    for kind in [socket.SOCK_DGRAM, *([socket.SOCK_STREAM] if stream else [])]:
+        with socket.socket(socket.AF_INET, kind) as asking:
+            asking.settimeout(0.2)
+            try:
+                asking.connect((address, int(port)))
+                asking.send(REQUEST)
+                asking.recv(2048)
+            except OSError:
+                return False
+    return True
+
+
+def wait_until_it_answers(address, port, stream):
+    end = time.monotonic() + 20
+    while not answers(address, port, stream):
+        if time.monotonic() > end:
+            sys.exit(f"the server at {address}:{port} doesn't answer")
+        time.sleep(0.05)
+
+
 def processes_of(process):
-    """The numbers of a process and of those that it started, and the fields of their states from the third on."""
+    """The numbers of a process and of those that it started, with the fields of their states from the third
+    on."""
     for path in pathlib.Path("/proc").glob("[0-9]*/stat"):
         try:
             fields = path.read_text().rpartition(")")[2].split()
@@ -52,8 +78,8 @@ def memory(process):
 
 
 class Load:
-    """A run of relay_load: the clients and peers of a TURN server, which obey commands. A command prepares it, as
-    taskset does."""
+    """A run of relay_load: the clients and peers of a TURN server, which obey commands. A command prepares
+    it, as taskset does."""
 
     def __init__(self, program, server, *options, command=()):
         self.server = server
@@ -64,7 +90,8 @@ class Load:
         return self
 
     def __exit__(self, *_):
-        self.ran.stdin.close()
+        with contextlib.suppress(BrokenPipeError):
+            self.ran.stdin.close()
         self.ran.wait()
         self.ran.stdout.close()
 

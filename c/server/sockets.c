@@ -13,7 +13,9 @@ enum {
     QUEUE = 4 << 20, /* bytes that may wait in a socket for UDP, if the system allows them */
     /* of a connection; the system takes twice as much */
     TO_SEND = 64 << 10,
-    TO_READ = 16 << 10
+    TO_READ = 16 << 10,
+    /* of a packet that a client sends: a few fill TO_READ, as over the loopback one could not */
+    SEGMENT = 4 << 10
 };
 
 /* Sets an option of a socket that it can serve without. */
@@ -57,6 +59,7 @@ static void prepare_tcp(int number) {
     set_option(number, IPPROTO_TCP, TCP_NODELAY, 1);
     set_option(number, SOL_SOCKET, SO_SNDBUF, TO_SEND);
     set_option(number, SOL_SOCKET, SO_RCVBUF, TO_READ);
+    set_option(number, IPPROTO_TCP, TCP_MAXSEG, SEGMENT);
     set_option(number, IPPROTO_TCP, TCP_USER_TIMEOUT, (int)setting(IDLE_TIMEOUT) * 1000);
     set_option(number, IPPROTO_TCP, TCP_DEFER_ACCEPT, (int)setting(REQUEST_TIMEOUT));
 }
