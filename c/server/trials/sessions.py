@@ -53,6 +53,10 @@ def line_of(side):
     return line
 
 
+def last_line(text):
+    return "".join(text.strip().splitlines()[-1:])
+
+
 def session(bench, command, transport="udp", six=False):
     """Two clients talk through the server. Returns the numbers that the one that offers prints."""
     settings = Settings(channel_permits=True)  # (aioice doesn't refresh permissions, only channels)
@@ -75,9 +79,9 @@ def talk(bench, command, *given):
             other.stdin.flush()
         told = [side.communicate(timeout=bench.seconds + 2 * PATIENCE) for side in both]
         for side, (_, complaint) in zip(both, told):
-            check(side.returncode == 0, f"status {side.returncode}: {complaint[-1000:]}")
+            check(side.returncode == 0, f"status {side.returncode}: {last_line(complaint)}")
         counted = re.findall(r"\d+", told[0][0])
-        check(counted and int(counted[0]) > 10 * bench.seconds, f"it said {told}")
+        check(counted and int(counted[0]) > 10 * bench.seconds, f"it says {told[0][0]!r}")
         return counted
     finally:
         for side in both:
