@@ -296,10 +296,12 @@ typedef struct {
 } relay;
 
 /* What a process does with a datagram of `length` bytes for a client. The bytes stay until `flush`,
- * which sends what waits; NULL: they are copied. */
+ * which sends what waits; NULL: they are copied. copies: a client's datagram doesn't stay until
+ * send_to_peers. */
 typedef struct {
     void (*deliver)(turn_client *to, uint8_t *bytes, size_t length);
     void (*flush)(void);
+    bool copies;
     void (*changed)(const relay *of, bool begins); /* an allocation begins, or ends; NULL: so what */
     int poller;
     uint64_t first; /* the number of its first relay socket among the events of `poller` */

@@ -5,7 +5,8 @@
 #include <sys/mman.h>
 
 enum {
-    PIECE = 4096,    /* bytes read at once, and of a page */
+    PIECE = 4096,    /* bytes read at once, and of a page, */
+    LARGE_PIECE = 65536, /* and read at once of a client with an allocation */
     RESPONSE = 2048, /* bytes of a response of the TURN server at most, */
     REPLIES = 65536 + 128 + RESPONSE, /* and of what waits to be sent: a peer's data takes fewer */
     SECOND = 1000,
@@ -33,6 +34,7 @@ typedef struct {
     uint64_t begun;           /* when the first byte of a message came that isn't whole yet */
     uint64_t closed_at;       /* if it is closing */
     uint64_t serial;          /* which of all connections it is */
+    bool is_fresh;            /* data of peers has come for it, and isn't sent yet */
     uint32_t relays;          /* its allocations: one, and those that have ended and are still there */
     uint64_t relay;           /* the newest */
     stun_types_five_tuple tuple;
@@ -56,6 +58,8 @@ static struct {
     bool paused[MOST_ENDPOINTS]; /* listeners from which nothing is accepted for a while */
     uint64_t now; /* when the events that are served were got */
     uint64_t accepted; /* how many connections there were */
+    connection *fresh[MOST_CONNECTIONS];
+    size_t fresh_count;
     const endpoints *endpoints;
     tally *mine;
 } tcp;
@@ -190,23 +194,11 @@ static turn_outcome take_message(const connection *of, connection_bytes *bytes, 
     turn_client client = {.tuple = of->tuple,
                           .connection = (size_t)(of - tcp.connections),
                           .serial = of->serial};
-    turn_outcome outcome = take_from_client(&client, bytes->message, of->stream.message, room,
-                                            REPLIES - of->replies_end, written);
-    send_to_peers(); /* (the next message overwrites this one) */
-    return outcome;
+    return take_from_client(&client, bytes->message, of->stream.message, room, REPLIES - of->replies_end,
+                            written);
 }
 
-/* Takes bytes of the piece that was read, and makes the reply to the message that they end. */
-static void answer_piece(connection *of, connection_bytes *bytes) {
-    size_t taken = 0, pending = of->stream.pending;
-    stun_types_answer answer =
-        stun_types_stream_push(&of->stream, bytes->message, sizeof bytes->message,
-                               bytes->piece + of->piece_at, of->piece_end - of->piece_at, &taken);
-    of->piece_at += taken;
-    of->large |= of->stream.pending > PIECE;
-    if (answer.code != STUN_TYPES_OK) of->closing = true;
-    if (pending == 0) of->begun = tcp.now;
-    if (answer.code != STUN_TYPES_OK || of->stream.message == 0) return;
+static void answer_message(connection *of, connection_bytes *bytes) {
     size_t length = 0;
     turn_outcome outcome = take_message(of, bytes, &length);
     of->replies_end += length;
@@ -217,12 +209,24 @@ static void answer_piece(connection *of, connection_bytes *bytes) {
     if (outcome == TURN_NOTHING_DUE) count(tcp.mine, TCP_UNANSWERED, 1);
 }
 
-/* Answers what was read, as long as there is room for any reply, or any to a client that has an
- * allocation. */
+/* Takes bytes at the start of a piece, and makes the reply to the message that they end. Returns how
+ * many. */
+static size_t answer_piece(connection *of, connection_bytes *bytes, const uint8_t *piece, size_t length) {
+    size_t taken = 0, pending = of->stream.pending;
+    stun_types_answer answer = stun_types_stream_push(
+        &of->stream, bytes->message, sizeof bytes->message, piece, length, &taken);
+    of->large |= of->stream.pending > PIECE;
+    if (answer.code != STUN_TYPES_OK) of->closing = true;
+    if (pending == 0) of->begun = tcp.now;
+    if (answer.code == STUN_TYPES_OK && of->stream.message > 0) answer_message(of, bytes);
+    return taken;
+}
+
+/* Answers what was read, as long as there is room for any reply. */
 static void answer_pieces(connection *of, connection_bytes *bytes) {
     while (!of->closing && of->piece_at < of->piece_end &&
-           of->replies_end + (of->relays > 0 ? RESPONSE : STUN_TYPES_GREATEST_REPLY) <= REPLIES) {
-        answer_piece(of, bytes);
+           of->replies_end + STUN_TYPES_GREATEST_REPLY <= REPLIES) {
+        of->piece_at += answer_piece(of, bytes, bytes->piece + of->piece_at, of->piece_end - of->piece_at);
     }
 }
 
@@ -289,18 +293,27 @@ static void move_to_front(connection *of, connection_bytes *bytes) {
     of->replies_at = 0;
 }
 
+/* Answers a piece whole: a response that has no room is lost. */
+static void answer_all(connection *of, connection_bytes *bytes, const uint8_t *piece, size_t length) {
+    for (size_t at = 0; at < length && !of->closing;) {
+        at += answer_piece(of, bytes, piece + at, length - at);
+    }
+}
+
 /* The same for a connection with an allocation: what its client doesn't read doesn't hinder what it
  * sends. */
 static uint32_t serve_relayed(connection *of, connection_bytes *bytes) {
+    static uint8_t piece[LARGE_PIECE];
     if (send_waiting(of, bytes) == BROKEN) return 0;
     move_to_front(of, bytes);
-    if (of->piece_at == of->piece_end && read_piece(of, bytes) == BROKEN) return 0;
-    answer_pieces(of, bytes);
+    answer_all(of, bytes, bytes->piece + of->piece_at, of->piece_end - of->piece_at);
+    of->piece_at = of->piece_end;
+    ssize_t got = recv(of->socket, piece, sizeof piece, 0);
+    if (got == 0 || (got < 0 && failure() == BROKEN)) return 0;
+    if (got > 0) answer_all(of, bytes, piece, (size_t)got);
     if (of->closing) return serve_in_turn(of, bytes);
     int sent = send_waiting(of, bytes);
-    if (sent == BROKEN) return 0;
-    bool has_answered = of->piece_at == of->piece_end;
-    return (has_answered ? EPOLLIN : 0u) | (sent == WOULD_WAIT || !has_answered ? EPOLLOUT : 0u);
+    return sent == BROKEN ? 0 : sent == WOULD_WAIT ? EPOLLIN | EPOLLOUT : EPOLLIN;
 }
 
 static void serve_connection(connection *of) {
@@ -312,29 +325,41 @@ static void serve_connection(connection *of) {
 
 /* ---- Data of peers --------------------------------------------------------------------------- */
 
-/* Sends bytes at once if nothing else waits. Returns how many are left. */
-static size_t send_at_once(connection *of, const uint8_t *bytes, size_t length) {
-    if (of->replies_at < of->replies_end) return length;
-    of->replies_at = of->replies_end = 0;
-    ssize_t sent = send(of->socket, bytes, length, MSG_NOSIGNAL);
-    return sent < 0 ? length : length - (size_t)sent;
+/* Whether a message has room beside what waits, and a response still has. */
+static bool has_room(const connection *of, size_t length) {
+    return of->replies_end + length + RESPONSE <= REPLIES;
 }
 
-/* Gives a connection a message with a peer's data, or drops that whole: a client that doesn't read loses
- * what is more than the buffer takes. */
+/* Has a message with a peer's data wait for send_fresh, or drops it whole: a client that doesn't read
+ * loses what is more than the buffer takes. */
 static void deliver(turn_client *to, uint8_t *message, size_t length) {
     connection *of = &tcp.connections[to->connection];
     connection_bytes *bytes = &tcp.bytes[to->connection];
     if (!of->open || of->closing || of->serial != to->serial) return;
-    size_t left = send_at_once(of, message, length);
-    if (left == length) move_to_front(of, bytes);
-    bool fits = of->replies_end + left + RESPONSE <= REPLIES;
-    count(tcp.mine, fits ? TCP_SENT : TURN_UNREAD, 1);
-    if (left == 0 || !fits) return;
-    memcpy(bytes->replies + of->replies_end, message + length - left, left);
-    of->replies_end += left;
+    if (!has_room(of, length)) {
+        (void)send_waiting(of, bytes);
+        move_to_front(of, bytes);
+    }
+    count(tcp.mine, has_room(of, length) ? TCP_SENT : TURN_UNREAD, 1);
+    if (!has_room(of, length)) return;
+    memcpy(bytes->replies + of->replies_end, message, length);
+    of->replies_end += length;
     of->large |= of->replies_end > PIECE;
-    (void)await(of, of->awaited | EPOLLOUT);
+    if (of->is_fresh || tcp.fresh_count == MOST_CONNECTIONS) return;
+    of->is_fresh = true;
+    tcp.fresh[tcp.fresh_count++] = of;
+}
+
+/* Sends the data of peers that has come in this turn. (What is broken has an event of its own.) */
+static void send_fresh(void) {
+    for (size_t i = 0; i < tcp.fresh_count; i++) {
+        connection *of = tcp.fresh[i];
+        of->is_fresh = false;
+        if (!of->open || of->closing) continue;
+        int sent = send_waiting(of, &tcp.bytes[of - tcp.connections]);
+        if (sent == WOULD_WAIT) (void)await(of, of->awaited | EPOLLOUT);
+    }
+    tcp.fresh_count = 0;
 }
 
 /* Counts the allocations of a connection. Its time-outs begin anew after the last. */
@@ -471,9 +496,9 @@ bool begin_tcp(const endpoints *of, tally *mine) {
             return cannot("no epoll");
         }
     }
-    return !setting(TURN) || begin_turn(&(turn_process){.deliver = deliver, .changed = change_relays,
-                                                        .poller = tcp.poller, .first = RELAYS,
-                                                        .mine = mine});
+    return !setting(TURN) || begin_turn(&(turn_process){.deliver = deliver, .copies = true,
+                                                        .changed = change_relays, .poller = tcp.poller,
+                                                        .first = RELAYS, .mine = mine});
 }
 
 void serve_tcp(void) {
@@ -485,6 +510,8 @@ void serve_tcp(void) {
         tcp.now = milliseconds();
         if (setting(TURN)) begin_turn_at(nanoseconds());
         for (int i = 0; i < ready; i++) serve_event(&events[i]);
+        if (setting(TURN)) send_to_peers();
+        send_fresh();
         if (tcp.now - looked < SECOND) continue;
         looked = tcp.now;
         close_overdue();

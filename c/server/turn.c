@@ -43,6 +43,7 @@ static struct {
     relay *from[HELD];
     int count;
 } outgoing;
+static uint8_t copies[HELD][65536 + 64]; /* of their data, if what they came in doesn't stay */
 static struct mmsghdr incoming[FEW];
 static struct iovec incoming_at[FEW];
 static struct sockaddr_storage sources[FEW];
@@ -207,9 +208,11 @@ static void send_later(const stun_types_turn_action *action, const uint8_t *data
     if (from == NULL || from->socket < 0 || !may_relay(from, action->length)) return;
     if (outgoing.count == HELD) send_to_peers();
     int at = outgoing.count++;
+    const uint8_t *data = datagram + action->at;
+    if (turn.process.copies) data = memcpy(copies[at], data, action->length);
     socket_address_of(&action->peer, &outgoing.peers[at]);
     outgoing.messages[at].msg_hdr.msg_namelen = outgoing.peers[at].length;
-    outgoing.places[at].iov_base = (void *)(uintptr_t)(datagram + action->at);
+    outgoing.places[at].iov_base = (void *)(uintptr_t)data;
     outgoing.places[at].iov_len = action->length;
     outgoing.from[at] = from;
     count(turn.process.mine, TURN_TO_PEER, 1);
@@ -346,6 +349,7 @@ void look_after_relays(void) {
 void orphan_relay(uint64_t number) {
     relay *of = find_relay(number);
     if (of == NULL) return;
+    send_to_peers();
     turn.orphans[turn.orphans_count++] = of;
     close_relay_socket(of);
 }

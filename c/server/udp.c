@@ -190,19 +190,34 @@ static turn_client client_of(int i, const stun_types_address *source) {
     return client;
 }
 
-/* Takes datagram i to the TURN server. What is of no user counts as a reply. */
+/* Whether a datagram is a request that isn't signed. */
+static bool is_unsigned(const uint8_t *datagram, size_t length) {
+    enum { HEADER = 20, CHANNELS = 0x40, CLASS = 0x0110 };
+    stun_types_attribute found;
+    if (length < HEADER || datagram[0] >= CHANNELS) return false;
+    if (((datagram[0] << 8 | datagram[1]) & CLASS) != 0) return false;
+    return !stun_types_find(datagram, length, STUN_TYPES_ATTRIBUTE_MESSAGE_INTEGRITY, &found) &&
+           !stun_types_find(datagram, length, STUN_TYPES_ATTRIBUTE_MESSAGE_INTEGRITY_SHA256, &found);
+}
+
+/* Takes datagram i to the TURN server. What is of no user counts as a reply; before it is made, if that is
+ * known: a nonce takes an HMAC. */
 static void relay_datagram(int i, uint32_t rate, uint64_t now) {
+    const uint8_t *datagram = datagrams[i];
     stun_types_address source;
-    turn_outcome outcome = TURN_NOTHING_DUE;
-    size_t length = 0;
-    if (read_source(i, &source)) {
-        turn_client client = client_of(i, &source);
-        outcome = take_from_client(&client, datagrams[i], received[i].msg_len, reply_rooms[i],
-                                   REPLY_ROOM, &length);
+    size_t length = 0, taken = received[i].msg_len;
+    if (!read_source(i, &source)) {
+        count(udp.mine, UDP_UNANSWERED, 1);
+        return;
     }
+    bool is_counted = rate > 0 && is_unsigned(datagram, taken);
+    if (is_counted && !is_within(&source, rate, now)) return;
+    turn_client client = client_of(i, &source);
+    turn_outcome outcome = take_from_client(&client, datagram, taken, reply_rooms[i], REPLY_ROOM, &length);
     if (outcome == TURN_NOTHING_DUE) count(udp.mine, UDP_UNANSWERED, 1);
     if (outcome == TURN_NOTHING_DUE || outcome == TURN_RELAYED) return;
-    if (outcome == TURN_ANSWERED && rate > 0 && !is_within(&source, rate, now)) return;
+    bool is_limited = rate > 0 && outcome == TURN_ANSWERED && !is_counted;
+    if (is_limited && !is_within(&source, rate, now)) return;
     address_reply(&received[i].msg_hdr, reply_rooms[i], length);
 }
 

@@ -18,7 +18,8 @@ import subprocess
 import sys
 import time
 
-from harness import Server, after, ask_once, free_port, is_closed
+from harness import Server, after, ask_once, free_port, in_own_network, is_closed
+from manager import PASS_ON
 from operators import HERE, folder_of, write
 from steps import PATIENCE, REQUEST, Skipped, check, run, wait_until
 
@@ -357,6 +358,15 @@ def bursts(programs):
             for source in relayed:
                 check([it[1] for it in heard if it[0] == source] == data, "the peer hears other data")
             ended(server)
+
+
+def small_packets(programs):
+    """The same if packets are shorter than some datagrams that would go together."""
+    def run_there():
+        status, _, told = run(["ip", "link", "set", "lo", "mtu", "1280"])
+        check(status == 0, told)
+        bursts(programs)
+    in_own_network(run_there)
 
 
 def nonsense(programs):
@@ -743,6 +753,12 @@ def misused(programs):
             check(got == status and told in said, f"{given}: status {got}: {said}")
         got, said = start_at(programs, "0.0.0.0", right)
         check(got == 3 and "relay-address" in said, f"status {got}: {said}")
+        with socket.socket(socket.AF_INET, socket.SOCK_DGRAM) as passed:
+            passed.bind(("127.0.0.1", 0))
+            command = [sys.executable, "-c", PASS_ON, "1", str(passed.fileno()), programs["server"], "-j", "2"]
+            words = [word for it in ["turn=1", *right] for word in ("-o", it)]
+            got, _, said = run([*command, *words], pass_fds=[passed.fileno()])
+            check(got == 3 and "-j 1" in said, f"processes that share a socket: status {got}: {said}")
 
 
 def start_at(programs, address, settings):
