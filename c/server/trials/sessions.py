@@ -7,7 +7,7 @@ import subprocess
 import sys
 
 from hosts import SERVER
-from steps import Skipped, build, c_compiler, check, run
+from steps import Skipped, Wrong, build, c_compiler, check, run
 from turn_servers import Settings
 
 SIDES = pathlib.Path(__file__).resolve().parent / "sides"
@@ -45,16 +45,18 @@ def libnice(bench, **how):
     session(bench, [str(program)], **how)
 
 
+def last_line(text):
+    return "".join(text.strip().splitlines()[-1:])
+
+
 def line_of(side):
     """The next line that a side prints."""
     ready, _, _ = select.select([side.stdout], [], [], PATIENCE)
     line = side.stdout.readline() if ready else ""
-    check(line, f"a side prints nothing: {side.poll()}")
+    if not line:
+        side.kill()
+        raise Wrong(f"a side describes nothing: {last_line(side.communicate()[1])}")
     return line
-
-
-def last_line(text):
-    return "".join(text.strip().splitlines()[-1:])
 
 
 def session(bench, command, transport="udp", six=False):
