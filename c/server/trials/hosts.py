@@ -42,8 +42,10 @@ class Host:
     def __init__(self):
         self.network = new_network()
         with self.inside():
-            for path in ("ipv4/ip_forward", "ipv6/conf/all/forwarding"):
-                pathlib.Path(f"/proc/sys/net/{path}").write_text("0")
+            for name in ("ipv4/ip_forward", "ipv6/conf/all/forwarding"):
+                path = pathlib.Path("/proc/sys/net", name)
+                if path.read_text() != "0\n":
+                    path.write_text("0")
         self.ip("link set lo up")
 
         self.path = f"/proc/{os.getpid()}/fd/{self.network}"

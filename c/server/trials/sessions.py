@@ -7,7 +7,7 @@ import subprocess
 import sys
 
 from hosts import SERVER
-from steps import Skipped, build, c_compiler, check, run
+from steps import Skipped, Wrong, build, c_compiler, check, run
 from turn_servers import Settings
 
 SIDES = pathlib.Path(__file__).resolve().parent / "sides"
@@ -45,11 +45,17 @@ def libnice(bench, **how):
     session(bench, [str(program)], **how)
 
 
+def last_line(text):
+    return "".join(text.strip().splitlines()[-1:])
+
+
 def line_of(side):
     """The next line that a side prints."""
     ready, _, _ = select.select([side.stdout], [], [], PATIENCE)
     line = side.stdout.readline() if ready else ""
-    check(line, f"a side prints nothing: {side.poll()}")
+    if not line:
+        side.kill()
+        raise Wrong(f"a side describes nothing: {last_line(side.communicate()[1])}")
     return line
 
 
@@ -75,9 +81,9 @@ def talk(bench, command, *given):
             other.stdin.flush()
         told = [side.communicate(timeout=bench.seconds + 2 * PATIENCE) for side in both]
         for side, (_, complaint) in zip(both, told):
-            check(side.returncode == 0, f"status {side.returncode}: {complaint[-1000:]}")
+            check(side.returncode == 0, f"status {side.returncode}: {last_line(complaint)}")
         counted = re.findall(r"\d+", told[0][0])
-        check(counted and int(counted[0]) > 10 * bench.seconds, f"it said {told}")
+        check(counted and int(counted[0]) > 10 * bench.seconds, f"it says {told[0][0]!r}")
         return counted
     finally:
         for side in both:

@@ -31,7 +31,8 @@ def echoing(host):
 
 
 def expect_echoes(ran):
-    """Waits for turnutils_uclient, which has to receive each message that it sends."""
+    """Waits for turnutils_uclient, which has to receive each message that it sends. (It compares their
+    numbers and lengths.)"""
     said, _ = ran.communicate(timeout=PATIENCE)
     total = str(CLIENTS * MESSAGES)
     sums = re.findall(r"tot_send_msgs=(\d+), tot_recv_msgs=(\d+)", said)
@@ -39,7 +40,8 @@ def expect_echoes(ran):
     complaints = re.findall(r".*(?:ERROR|[Ww]rong).*", said)
     check(not complaints, f"it complains: {complaints[:3]}")
     right = ran.returncode == 0 and sums and sums[-1] == (total, total) and lost == [("0", "0")]
-    check(right, f"status {ran.returncode}, of {total} messages: {said[-1000:]}")
+    told = "" if ran.returncode == 0 else said.strip().splitlines()[-1:]
+    check(right, f"status {ran.returncode}, messages {sums[-1:]} of {total}, lost {lost} {told}")
 
 
 def echoed(bench, *flags):

@@ -86,25 +86,28 @@ async def described():
 
 async def talk(arguments, send, receive):
     """Sends messages and waits for each to come back, or sends back what comes, until the end."""
-    patience = PATIENCE * arguments.speed
+    async def hear():
+        try:
+            return await asyncio.wait_for(receive(), PATIENCE * arguments.speed)
+        except asyncio.TimeoutError:
+            sys.exit(f"nothing comes for {PATIENCE} s")
+
     if not arguments.offers:
         message = b""
         while message != END:
-            message = await asyncio.wait_for(receive(), patience)
+            message = await hear()
             await send(message)
         await asyncio.sleep(arguments.speed)
         return
-    count, end = 0, time.monotonic() + arguments.seconds
-    while time.monotonic() < end:
-        message = count.to_bytes(8, "big") + os.urandom(count % 1000)
+    count, end, message = 0, time.monotonic() + arguments.seconds, b""
+    while message != END:
+        over = time.monotonic() >= end
+        message = END if over else count.to_bytes(8, "big") + os.urandom(count % 1000)
         await send(message)
-        if await asyncio.wait_for(receive(), patience) != message:
+        if await hear() != message:
             sys.exit(f"message {count} came back as another")
         count += 1
         await asyncio.sleep(0.01 * arguments.speed)
-    await send(END)
-    if await asyncio.wait_for(receive(), patience) != END:
-        sys.exit("the end came back as something else")
     told = f"{answered['REFRESH']} refreshes, {answered['CHANNEL_BIND']} channels"
     print(f"{count} messages came back, {told}", flush=True)
 
