@@ -221,9 +221,10 @@ def own_memory(server):
 
 
 def held(programs):
-    """Thousands of allocations are held over refreshes, all are used, and what they take of memory is used again
-    by others after them."""
-    with many_files(), turn_server(programs, *MANY, "-o", "ports=10000-65535") as server:
+    """As many allocations as there may be are held over refreshes, all are used, and what they take of memory
+    is used again by others after them."""
+    options = ["-o", "allocations=4000", "-o", "user-allocations=4000", "-o", "ports=10000-65535"]
+    with many_files(), turn_server(programs, *options) as server:
         sizes = []
         for _ in range(4):
             with load(programs, server, "-n", "4000", "-m", "2", "-w", "1", "-c") as run:
