@@ -266,6 +266,9 @@ def turn_server(programs, *options, users="user pass\n", secret=None, at=("127.0
                 for stream in {False, "-t" in words}:
                     with Client(server, at={"::": "::1"}.get(address, address), stream=stream) as client:
                         client.ask_with(REQUEST + bytes(12))  # (now it serves)
+                        if stream:  # (its socket isn't one of those that a trial counts)
+                            client.socket.shutdown(socket.SHUT_WR)
+                            check(is_closed(client.socket), "a connection that is half closed stays")
             yield server
 
 
