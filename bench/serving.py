@@ -68,8 +68,8 @@ def processes_of(process):
 
 def processor_time(process):
     """The seconds that a process and those that it started have had of a processor."""
-    ticks = sum(int(fields[11]) + int(fields[12]) for _, fields in processes_of(process))
-    return ticks / os.sysconf("SC_CLK_TCK")
+    threads = (it for number, _ in processes_of(process) for it in pathlib.Path(f"/proc/{number}/task").iterdir())
+    return sum(int((it / "schedstat").read_text().split()[0]) for it in threads) / 1e9
 
 
 def memory(process):

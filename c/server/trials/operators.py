@@ -115,6 +115,12 @@ def reports(programs):
                                        free_port(["127.0.0.1"])])
                 check(status == 3 and option in told, f"status {status}: {told}")
                 server.ran.kill()
+                wait_until(lambda: not reports_at(where), "the reports outlive their server")
+
+
+def reports_at(where):
+    with contextlib.suppress(OSError, Wrong):
+        return bool(report(where))
 
 
 def has_reported(where, name, number):
