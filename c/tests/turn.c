@@ -290,7 +290,7 @@ static void test_overwritten(void) {
     heap_forget_secrets();
 }
 
-/* Zeros of the greatest lifetime, and of an allocation's window. */
+/* The lifetime that is granted, by the greatest of the settings. */
 static void test_lifetimes(void) {
     static const struct {
         const char *name;
