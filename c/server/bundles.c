@@ -9,7 +9,7 @@
 #endif
 
 enum {
-    MOST = 192,       /* datagrams that are bundled at once */
+    MOST = 64 + HELD, /* datagrams that are bundled at once */
     SEGMENT = 1400,   /* the longest datagram of a bundle, which is no longer than a packet */
     TOTAL = 60000,    /* bytes, and */
     SEGMENTS = 64     /* datagrams of a bundle */

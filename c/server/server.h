@@ -295,6 +295,9 @@ typedef struct {
     turn_client client;
 } relay;
 
+/* How many datagrams of peers, and for peers, wait to be sent at once. */
+enum { HELD = 128 };
+
 /* What a process does with a datagram of `length` bytes for a client. The bytes stay until `flush`,
  * which sends what waits; NULL: they are copied. copies: a client's datagram doesn't stay until
  * send_to_peers. */

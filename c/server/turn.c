@@ -6,8 +6,7 @@
 
 enum {
     SECRET_LENGTH = 32,
-    FEW = 64,   /* datagrams that are received from one relay socket before it is the others' turn */
-    HELD = 128, /* datagrams of peers, and for peers, that wait to be sent at once */
+    FEW = 64, /* datagrams that are received from one relay socket before it is the others' turn */
     /* what comes before the data, the longest datagram, and zeros after it; an odd number of lines of
      * the cache spreads the rooms over it */
     PEER_ROOM = STUN_TYPES_TURN_HEAD + 65536 + 16 + 64,

@@ -8,7 +8,7 @@
 
 enum {
     BATCH = 64,
-    TO_CLIENTS = 3 * BATCH, /* replies, and data of peers */
+    TO_CLIENTS = BATCH + HELD, /* replies, and data of peers */
     SECOND = 1000000000,
     /* no datagram is longer; the odd number of lines of the cache spreads the buffers over it */
     DATAGRAM_ROOM = 65536 + 64,
