@@ -1,4 +1,5 @@
-"""What the scripts of this folder share: the tree, its crates and copies of them, counts, and Markdown."""
+"""What the scripts of this folder share: the tree, its crates and copies of them, the kit, counts, and Markdown."""
+import atexit
 import collections
 import functools
 import importlib.machinery
@@ -10,6 +11,7 @@ import re
 import shutil
 import subprocess
 import sys
+import tempfile
 
 TOP = pathlib.Path(__file__).resolve().parent.parent
 COUNT = re.compile(r"^(\d+) passed, (\d+) failed$", re.M)
@@ -106,20 +108,59 @@ def script(name):
     return module
 
 
+def kit():
+    """The folder of the kit."""
+    return str(pathlib.Path(ran("rt", "doc").stdout.strip()).parent)
+
+
+def make_kit(folder, commands):
+    """Makes a kit of the parts of the machine's, but for these commands, each with the lines of its script."""
+    machines = pathlib.Path(kit()).resolve()
+    own = {pathlib.PurePath(name) for name in commands}
+    folders = {pathlib.PurePath("bin"), *(it.parent for it in own)}
+    folders |= {it for name in folders for it in name.parents}
+    for name in sorted(folders):
+        (folder / name).mkdir(exist_ok=True)
+        for part in (it.relative_to(machines) for it in (machines / name).iterdir()):
+            if part not in own | folders:
+                (folder / part).symlink_to(machines / part)
+    # (rt finds its kit beside itself)
+    for name in ("bin/rt", "bin/rtlib.py"):
+        (folder / name).unlink()
+        shutil.copy(machines / name, folder / name)
+    for name, lines in commands.items():
+        (folder / name).write_text("\n".join(["#!/bin/sh", *lines, ""]))
+        (folder / name).chmod(0o755)
+
+
+# What a kit for `rt try` has: there `rattle` only looks for reserved names, as `rt ci` does too, and takes
+# as long as the rest.
+FOR_TRIES = {"bin/rattle": ["exit 1"]}
+
+
+@functools.cache
+def kit_for_tries():
+    """The folder of a kit for `rt try`."""
+    room = tempfile.TemporaryDirectory(prefix="kit-")
+    atexit.register(room.cleanup)
+    make_kit(pathlib.Path(room.name), FOR_TRIES)
+    return room.name
+
+
+def tried(*words, folder, **variables):
+    """Runs `rt try` in a crate."""
+    return ran(f"{kit_for_tries()}/bin/rt", "try", *words, folder=folder, **variables)
+
+
 def tested(crate):
     """Runs the tests of a crate, with no proof; all that was printed."""
-    ended = ran("rt", "try", "--test", folder=crate)
+    ended = tried("--test", folder=crate)
     return ended.stdout + ended.stderr
 
 
 def results_of(said):
     """What is printed of each test that ran, by its name: `ok` if it passed."""
     return dict(re.findall(r"^test (\S+) \.\.\. (.*(?:\n    .*)*)", said, re.M))
-
-
-def kit():
-    """The folder of the kit."""
-    return str(pathlib.Path(ran("rt", "doc").stdout.strip()).parent)
 
 
 def free():
