@@ -298,11 +298,11 @@ typedef struct {
 /* How many datagrams of peers, and for peers, wait to be sent at once. */
 enum { HELD = 128 };
 
-/* What a process does with a datagram of `length` bytes for a client. The bytes stay until `flush`,
- * which sends what waits; NULL: they are copied. copies: a client's datagram doesn't stay until
- * send_to_peers. */
+/* What a process does with a datagram of `length` bytes for a client; alone: its relay socket had no other.
+ * The bytes stay until `flush`, which sends what waits; NULL: they are sent at once, or copied. copies: a
+ * client's datagram doesn't stay until send_to_peers. */
 typedef struct {
-    void (*deliver)(turn_client *to, uint8_t *bytes, size_t length);
+    void (*deliver)(turn_client *to, uint8_t *bytes, size_t length, bool alone);
     void (*flush)(void);
     bool copies;
     void (*changed)(const relay *of, bool begins); /* an allocation begins, or ends; NULL: so what */

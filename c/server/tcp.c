@@ -185,22 +185,22 @@ static bool await(connection *of, uint32_t events) {
 /* ---- A connection ---------------------------------------------------------------------------- */
 
 /* Makes the reply to the message of a connection, or has the TURN server take it. */
-static turn_outcome take_message(const connection *of, connection_bytes *bytes, size_t *written) {
+static turn_outcome take_message(const connection *of, const uint8_t *message, connection_bytes *bytes,
+                                 size_t *written) {
     uint8_t *room = bytes->replies + of->replies_end;
     if (!setting(TURN)) {
-        *written = reply_to(bytes->message, of->stream.message, &of->tuple.client, room);
+        *written = reply_to(message, of->stream.message, &of->tuple.client, room);
         return *written > 0 ? TURN_ANSWERED : TURN_NOTHING_DUE;
     }
     turn_client client = {.tuple = of->tuple,
                           .connection = (size_t)(of - tcp.connections),
                           .serial = of->serial};
-    return take_from_client(&client, bytes->message, of->stream.message, room, REPLIES - of->replies_end,
-                            written);
+    return take_from_client(&client, message, of->stream.message, room, REPLIES - of->replies_end, written);
 }
 
-static void answer_message(connection *of, connection_bytes *bytes) {
+static void answer_message(connection *of, const uint8_t *message, connection_bytes *bytes) {
     size_t length = 0;
-    turn_outcome outcome = take_message(of, bytes, &length);
+    turn_outcome outcome = take_message(of, message, bytes, &length);
     of->replies_end += length;
     of->large |= of->replies_end > PIECE;
     of->heard = tcp.now;
@@ -210,15 +210,19 @@ static void answer_message(connection *of, connection_bytes *bytes) {
 }
 
 /* Takes bytes at the start of a piece, and makes the reply to the message that they end. Returns how
- * many. */
+ * many. A message that comes in one piece is gathered in memory that all connections share, which stays in
+ * the processor's cache. */
 static size_t answer_piece(connection *of, connection_bytes *bytes, const uint8_t *piece, size_t length) {
+    static uint8_t shared[sizeof bytes->message];
     size_t taken = 0, pending = of->stream.pending;
-    stun_types_answer answer = stun_types_stream_push(
-        &of->stream, bytes->message, sizeof bytes->message, piece, length, &taken);
+    uint8_t *message = pending > 0 ? bytes->message : shared;
+    stun_types_answer answer =
+        stun_types_stream_push(&of->stream, message, sizeof shared, piece, length, &taken);
+    if (message == shared) memcpy(bytes->message, shared, of->stream.pending);
     of->large |= of->stream.pending > PIECE;
     if (answer.code != STUN_TYPES_OK) of->closing = true;
     if (pending == 0) of->begun = tcp.now;
-    if (answer.code == STUN_TYPES_OK && of->stream.message > 0) answer_message(of, bytes);
+    if (answer.code == STUN_TYPES_OK && of->stream.message > 0) answer_message(of, message, bytes);
     return taken;
 }
 
@@ -330,12 +334,25 @@ static bool has_room(const connection *of, size_t length) {
     return of->replies_end + length + RESPONSE <= REPLIES;
 }
 
-/* Has a message with a peer's data wait for send_fresh, or drops it whole: a client that doesn't read
- * loses what is more than the buffer takes. */
-static void deliver(turn_client *to, uint8_t *message, size_t length) {
+/* Sends a message of which nothing waits yet. Returns how many bytes were sent: the others wait. */
+static size_t send_first(const connection *of, const uint8_t *message, size_t length) {
+    ssize_t sent = send(of->socket, message, length, MSG_NOSIGNAL);
+    return sent > 0 ? (size_t)sent : 0;
+}
+
+/* Sends a message with a peer's data that came alone, or has it wait for send_fresh, or drops it whole: a
+ * client that doesn't read loses what is more than the buffer takes. */
+static void deliver(turn_client *to, uint8_t *message, size_t length, bool alone) {
     connection *of = &tcp.connections[to->connection];
     connection_bytes *bytes = &tcp.bytes[to->connection];
     if (!of->open || of->closing || of->serial != to->serial) return;
+    size_t sent = alone && of->replies_end == 0 ? send_first(of, message, length) : 0;
+    if (sent == length) {
+        count(tcp.mine, TCP_SENT, 1);
+        return;
+    }
+    message += sent;
+    length -= sent;
     if (!has_room(of, length)) {
         (void)send_waiting(of, bytes);
         move_to_front(of, bytes);

@@ -42,7 +42,8 @@ static struct {
     relay *from[HELD];
     int count;
 } outgoing;
-static uint8_t copies[HELD][65536 + 64]; /* of their data, if what they came in doesn't stay */
+static uint8_t copies[4 * 65536]; /* of their data, if what they came in doesn't stay */
+static size_t copied;
 static struct mmsghdr incoming[FEW];
 static struct iovec incoming_at[FEW];
 static struct sockaddr_storage sources[FEW];
@@ -205,10 +206,13 @@ static bool may_relay(relay *by, size_t octets) {
 static void send_later(const stun_types_turn_action *action, const uint8_t *datagram) {
     relay *from = find_relay(action->relay);
     if (from == NULL || from->socket < 0 || !may_relay(from, action->length)) return;
-    if (outgoing.count == HELD) send_to_peers();
+    if (outgoing.count == HELD || copied + action->length > sizeof copies) send_to_peers();
     int at = outgoing.count++;
     const uint8_t *data = datagram + action->at;
-    if (turn.process.copies) data = memcpy(copies[at], data, action->length);
+    if (turn.process.copies) {
+        data = memcpy(copies + copied, data, action->length);
+        copied += action->length;
+    }
     socket_address_of(&action->peer, &outgoing.peers[at]);
     outgoing.messages[at].msg_hdr.msg_namelen = outgoing.peers[at].length;
     outgoing.places[at].iov_base = (void *)(uintptr_t)data;
@@ -225,6 +229,7 @@ void send_to_peers(void) {
         (void)send_bundled(by->socket, outgoing.messages + at, end - at, turn.process.mine, TURN_FAILED);
     }
     outgoing.count = 0;
+    copied = 0;
 }
 
 /* Counts a response by its code. */
@@ -268,7 +273,8 @@ static const stun_types_id *next_id(void) {
 }
 
 /* Delivers the data of a peer, which was received in a room after the place of a head. */
-static void relay_data(relay *by, const struct sockaddr_storage *source, uint8_t *room, size_t length) {
+static void relay_data(relay *by, const struct sockaddr_storage *source, uint8_t *room, size_t length,
+                       bool alone) {
     stun_types_address peer;
     stun_types_turn_delivery delivery;
     if (!address_of(source, &peer)) return;
@@ -283,7 +289,7 @@ static void relay_data(relay *by, const struct sockaddr_storage *source, uint8_t
     if (delivery.head_length > 4 && turn.ids_left > 0) turn.ids_left--;
     memset(room + STUN_TYPES_TURN_HEAD + length, 0, delivery.padding);
     turn.process.deliver(&by->client, room + STUN_TYPES_TURN_HEAD - delivery.head_length,
-                         delivery.head_length + length + delivery.padding);
+                         delivery.head_length + length + delivery.padding, alone);
     count(turn.process.mine, TURN_TO_CLIENT, 1);
     count(turn.process.mine, TURN_TO_CLIENT_OCTETS, length);
 }
@@ -308,12 +314,14 @@ void take_from_peers(uint64_t number) {
     relay *by = relay_at((size_t)(number - turn.process.first));
     if (by == NULL || by->socket < 0) return;
     if (held + FEW > HELD) {
-        if (turn.process.flush != NULL) turn.process.flush();
+        turn.process.flush();
         held = 0;
     }
     size_t got = receive(by);
-    for (size_t i = 0; i < got; i++) relay_data(by, &sources[i], rooms[held + i], incoming[i].msg_len);
-    held += got;
+    for (size_t i = 0; i < got; i++) {
+        relay_data(by, &sources[i], rooms[held + i], incoming[i].msg_len, got == 1);
+    }
+    if (turn.process.flush != NULL) held += got; /* (otherwise their rooms are free again) */
 }
 
 /* ---- The end of allocations ------------------------------------------------------------------ */

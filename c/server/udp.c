@@ -221,7 +221,8 @@ static void relay_datagram(int i, uint32_t rate, uint64_t now) {
     address_reply(&received[i].msg_hdr, reply_rooms[i], length);
 }
 
-static void deliver(turn_client *to, uint8_t *bytes, size_t length) {
+static void deliver(turn_client *to, uint8_t *bytes, size_t length, bool alone) {
+    (void)alone;
     const struct msghdr header = {.msg_name = &to->to,
                                   .msg_namelen = to->to_length,
                                   .msg_control = to->control_length > 0 ? &to->control : NULL,
