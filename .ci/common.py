@@ -114,7 +114,8 @@ def kit():
 
 
 def make_kit(folder, commands):
-    """Makes a kit of the parts of the machine's, but for these commands, each with the lines of its script."""
+    """Makes a kit in a folder: links to the parts of the machine's, and these commands instead of its own, each
+    with the lines of its script."""
     machines = pathlib.Path(kit()).resolve()
     own = {pathlib.PurePath(name) for name in commands}
     folders = {pathlib.PurePath("bin"), *(it.parent for it in own)}
