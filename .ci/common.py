@@ -113,6 +113,27 @@ def kit():
     return str(pathlib.Path(ran("rt", "doc").stdout.strip()).parent)
 
 
+@functools.cache
+def kit_version():
+    """What `rt version` prints: the name of the kit, and its logic."""
+    return ran("rt", "version").stdout.strip()
+
+
+def named_logic():
+    """The logic that README.md names."""
+    return (re.search(r"the logic ([0-9a-f]{16})", read("README.md")) or ["", ""])[1]
+
+
+def kit_name():
+    """The name of the kit."""
+    return kit_version().partition(" ")[0]
+
+
+def commit():
+    """The hash of the commit that is checked out, or no name outside of a repository of Git."""
+    return ran("git", "-c", "safe.directory=*", "rev-parse", "HEAD").stdout.strip() or "no commit"
+
+
 def make_kit(folder, commands):
     """Makes a kit in a folder: links to the parts of the machine's, and these commands instead of its own, each
     with the lines of its script."""

@@ -10,19 +10,10 @@ import re
 from common import TOP, Markdown, crates, fail, sources
 
 # The crates that a user lists, each with what it has.
-PUBLIC = {
-    "stun_types": "messages: reading, looking up, validating, writing, replying, printing",
-    "stun_framing": "the messages of a stream",
-    "stun_transactions": "a client's transaction, without sockets",
-    "stun_authentication": "credentials, at a server and at a client",
-    "stun_server": "a server that replies with the client's address",
-    "ice_attrs": "the attributes of ICE, and what an agent computes",
-    "turn_attrs": "the attributes of TURN, ChannelData, protocols by their first byte",
-    "turn_table": "what a TURN server keeps, and which peers it relays to",
-    "turn_server": "a TURN server, without sockets",
-    "discovery_attrs": "the attributes of NAT discovery",
-    "stun_plain_text": "a message as one line of printable ASCII",
-}
+PUBLIC = [
+    "stun_types", "stun_framing", "stun_transactions", "stun_authentication", "stun_server",
+    "ice_attrs", "turn_attrs", "turn_table", "turn_server", "discovery_attrs", "stun_plain_text",
+]
 DOC = re.compile(r"\s*//[/!](?: (.*)|)$")
 ITEM = re.compile(r"pub (?:(?:final|const|unsafe) )?(struct|enum|trait|fn|const|static|type) (\w+)")
 OTHER_ITEM = re.compile(r"(macro)_rules! (\w+)|(impl)\b")

@@ -1,9 +1,12 @@
 /* A fuzzer of the library: its entry is that of libFuzzer, LLVMFuzzerTestOneInput,
  *
- *     clang -fsanitize=fuzzer fuzz.c fuzz/[a-z]*.c tests/model*.c tests/reference.c tests/guarded.c
- *         ARCHIVES
+ *     c/fuzz/corpus corpus
+ *     c/library.py libstun_types.a
+ *     clang -std=c99 -O1 -g -fsanitize=fuzzer -o fuzzer c/fuzz.c c/fuzz/[a-z]*.c c/tests/model*.c \
+ *         c/tests/reference.c c/tests/guarded.c libstun_types.a
+ *     ./fuzzer -max_total_time=3600 -max_len=2000 -artifact_prefix=./ corpus
  *
- * and with FUZZ_MAIN it has a main of its own, which makes so many inputs by itself (200,000
+ * (./fuzzer FILE runs one input), and with FUZZ_MAIN it has a main of its own, which makes so many inputs by itself (200,000
  * unless an argument says otherwise, the same in each run) and ends with a line 'N passed, M
  * failed'.
  *

@@ -13,23 +13,32 @@ def readable(text):
     return ENUM.sub(r"enum \1", WARNINGS.sub("", text))
 
 
-def plain():
+def plain(path=PATH):
     """The declarations: no comments, no lines of the preprocessor, no bodies of functions."""
-    text = re.sub(r"/\*.*?\*/", "", PATH.read_text(), flags=re.S)
+    text = re.sub(r"/\*.*?\*/", "", path.read_text(), flags=re.S)
     text = re.sub(r"^#(?:.*\\\n)*.*$", "", text, flags=re.M)
-    text = re.sub(r"^static inline [^{}]*\{.*?^\}$", "", text, flags=re.M | re.S)
-    return readable(text)
+    return readable(re.sub(r"^(static inline [^{}]*?) \{.*?^\}$", r"\1;", text, flags=re.M | re.S))
+
+
+def functions(path=PATH):
+    """Each function, inline ones too: its result, and the declarations of its parameters."""
+    found = re.findall(r"^(\w[\w ]*?[ *]+)(stun_types_\w+)\(([^()]*)\);", plain(path), re.M)
+    made = {}
+    for result, name, parameters in found:
+        each = [" ".join(it.split()) for it in parameters.split(",")]
+        made[name] = (result.strip(), [it for it in each if it != "void"])
+    return made
 
 
 def calls():
-    """Each function: its result, and the declarations of its parameters."""
-    found = re.findall(r"^(\w[\w ]*?[ *]+)(stun_types_\w+)\(([^()]*)\);", plain(), re.M)
-    split = {name: (result.strip(), parameters) for result, name, parameters in found}
-    made = {}
-    for name, (result, parameters) in split.items():
-        each = [" ".join(it.split()) for it in parameters.split(",")]
-        made[name] = (result, [it for it in each if it != "void"])
-    return made
+    """Those that the library has."""
+    return {name: it for name, it in functions().items() if not it[0].startswith("static ")}
+
+
+def parameter_names(path):
+    """The names of the parameters of each function."""
+    each = functions(path).items()
+    return {name: [re.search(r"\w+$", it)[0] for it in parameters] for name, (_, parameters) in each}
 
 
 def slices():
@@ -43,16 +52,22 @@ def slices():
     return made
 
 
-def structs():
-    """Each struct, and the names of its fields."""
+def fields():
+    """Each struct, and the declarations of its fields, one by one."""
     made = {}
     for body, name in re.findall(r"^typedef struct \{([^{}]*)\} (stun_types_\w+);", plain(), re.M):
-        names = []
+        made[name] = []
         for declaration in filter(str.strip, body.split(";")):
-            each = map(str.strip, declaration.split(","))
-            names += [re.search(r"(\w+)(?:\[[^\]]*\])?$", it)[1] for it in each]
-        made[name] = names
+            first, *others = (" ".join(it.split()) for it in declaration.split(","))
+            kind = re.match(r"(?:const )?\w+ ", first)[0]
+            made[name] += [first, *(kind + it for it in others)]
     return made
+
+
+def structs():
+    """Each struct, and the names of its fields."""
+    name_of = lambda declared: re.search(r"(\w+)(?:\[[^\]]*\])?$", declared)[1]
+    return {name: [name_of(it) for it in each] for name, each in fields().items()}
 
 
 def enumerations():

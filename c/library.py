@@ -6,7 +6,9 @@ archive that it needs, by default the one of `rt doc`. The library is one object
 the header are global and all others are local: a program may link another library made by a kit beside
 it. A call that writes to a pointer of its caller, and has another one, gets a function in C in front of
 it. That compares the addresses, and refuses what the proved function must not get: two arguments that
-overlap, if one of them is written. --source prints these functions, which follow from the header alone.
+overlap, if one of them is written. A slice in a struct that is passed is an argument too; if it is NULL,
+the proved function gets a copy of the struct with another address. --source prints these functions,
+which follow from the header alone.
 
 Needed are ld, objcopy and ar (binutils, or $LD, $OBJCOPY and $AR) and a C compiler ($CC, or cc)."""
 import os
@@ -35,8 +37,9 @@ ZEROS = {
     ("stun_types_transaction_begin", "transaction"),
     ("stun_types_binding_reply", "reply_length"),
 }
-# What it returns.
+# What it returns. A call that counts what it wrote wrote nothing.
 REFUSED = {"bool": "false", "size_t": "SIZE_MAX", "stun_types_answer": "refused"}
+REFUSED_BY = {"stun_types_turn_poll": "0"}
 BEGINS = """\
 /* (written by c/library.py) */
 #include <stdbool.h>
@@ -73,9 +76,26 @@ def pointers(parameters):
     return [Pointer(it, then) for it, then in zip(parameters, after) if "*" in it]
 
 
+def inside(pointer):
+    """The slices in the struct that a parameter points to, by the names of their fields."""
+    found = [] if pointer.is_slice else pointers(header.fields().get(pointer.kind, []))
+    return [it for it in found if it.is_slice]
+
+
+def arguments(parameters):
+    """The parameters that are pointers, and the slices in what they point to, as expressions."""
+    found = pointers(parameters)
+    for outer in pointers(parameters):
+        for it in inside(outer):
+            it.bytes = f"{outer.name}->{it.bytes}".replace(f"*{it.name}", f"*{outer.name}->{it.name}")
+            it.name = f"{outer.name}->{it.name}"
+            found.append(it)
+    return found
+
+
 def pairs(parameters):
     """Each two of them that must not overlap: one is written."""
-    found = pointers(parameters)
+    found = arguments(parameters)
     every = ((one, other) for i, one in enumerate(found) for other in found[i + 1 :])
     return [(one, other) for one, other in every if one.is_written or other.is_written]
 
@@ -91,7 +111,21 @@ def refusal(name, result, parameters):
     left = [it for it in pointers(parameters) if (name, it.name) in ZEROS
             or it.is_written and not it.is_slice and short(it) in VERDICTS]
     said = [f"memset({it.name}, 0, {it.bytes});" for it in left]
-    return [*said, f"return {REFUSED[result]};"]
+    return [*said, f"return {REFUSED_BY.get(name) or REFUSED[result]};"]
+
+
+def copies(parameters):
+    """The statements that copy a struct with slices, of which none is NULL; and the names of the copies."""
+    said, named = [], {}
+    for it in pointers(parameters):
+        slices = inside(it)
+        if slices:
+            named[it.name] = f"&{it.name}_copy"
+            said.append(f"{it.kind} {it.name}_copy = *{it.name};")
+        for part in slices:
+            field = f"{it.name}_copy.{part.name}"
+            said.append(f"if ({field} == NULL) {field} = (const void *){it.name};")
+    return said, named
 
 
 def source():
@@ -100,12 +134,15 @@ def source():
     for name, (result, parameters) in guarded().items():
         tests = [f"meet({a.name}, {a.bytes}, {b.name}, {b.bytes})" for a, b in pairs(parameters)]
         overlap = "\n        || ".join(tests)
-        given = ", ".join(re.search(r"\w+$", it)[0] for it in parameters)
+        said, named = copies(parameters)
+        names = [re.search(r"\w+$", it)[0] for it in parameters]
+        given = ", ".join(named.get(it, it) for it in names)
         declared = ", ".join(parameters)
+        copied = "".join(f"    {it}\n" for it in said)
         refused = "".join(f"        {it}\n" for it in refusal(name, result, parameters))
         made.append(
             f"\n{result} unguarded_{name}({declared});\n{result} {name}({declared}) {{\n"
-            f"    if ({overlap}) {{\n{refused}    }}\n"
+            f"    if ({overlap}) {{\n{refused}    }}\n{copied}"
             f"    return unguarded_{name}({given});\n}}\n"
         )
     return "".join(made)

@@ -1,11 +1,13 @@
 /* STUN messages (RFC 8489) for C: read, validated, written and answered by a library that is proved.
  *
- * - A slice is a pointer and a length in bytes. A slice of length 0 may be NULL. Every other pointer
- *   is valid and not NULL, but for that of stun_types_key_free. Messages are uint8_t; a text or a value
- *   that is passed in may be char or uint8_t (const void *).
- * - What a call writes, a slice or a struct, overlaps no other argument of it. A call compares the
- *   addresses before all else: if it would write an argument that overlaps another one, it returns
- *   BAD_ARGUMENT, or false, or, if it counts, SIZE_MAX.
+ * - A slice is a pointer and its length in bytes, or its count of elements: two parameters, or two
+ *   fields of a struct that is passed in. A slice of length 0 may be NULL. Every other pointer is valid
+ *   and not NULL, but for those of stun_types_key_free and stun_types_turn_free. Messages are uint8_t; a
+ *   text or a value that is passed in may be char or uint8_t (const void *).
+ * - What a call writes, a slice or a struct, overlaps no other argument of it, nor a slice in a struct
+ *   that is passed in. A call compares the addresses before all else: if it would write what overlaps
+ *   another argument, it returns BAD_ARGUMENT, or false, or, if it counts, SIZE_MAX;
+ *   stun_types_turn_poll, whose count never exceeds its room, returns 0.
  * - No call keeps a pointer, prints, blocks or aborts. Only the calls whose comments say so
  *   allocate (by malloc), and at most twice the bytes of their arguments and 1,024 more at once;
  *   stun_types_turn_new allocates more. All may run in several threads at once. One key may be used
@@ -24,7 +26,8 @@
  * - A password or a key of no bytes is BAD_ARGUMENT: anybody can sign with it.
  * - Arguments are tested. Only a key and a TURN server have to be what the library made (see Keys).
  * - The layout of the structs is part of the ABI. `reserved` is for fields of later versions: it is 0
- *   in what is passed in, or the call returns BAD_ARGUMENT, and 0 in what a call writes.
+ *   in what is passed in, or the call returns BAD_ARGUMENT, and 0 in what a call writes. So begin a
+ *   struct that is passed in with zeros (memset, or { 0 }), and set its fields by name.
  */
 #ifndef STUN_TYPES_H
 #define STUN_TYPES_H
@@ -107,11 +110,12 @@ typedef struct {
 STUN_TYPES_NODISCARD
 uint32_t stun_types_version(void);
 
-/* A short English text for a code. For languages that read no headers, stun_types_text writes it, and
-   a 0 after it, as far as there is room, and returns how many bytes both have. */
+/* A short English text for a code. For languages that read no headers, stun_types_text writes it at the
+   start of text, which has size bytes, and a 0 after it. A text that is longer is cut, and ends with a
+   0 too; with a size of 0 nothing is written. Returns how many bytes the whole text has with its 0. */
 STUN_TYPES_NODISCARD
 size_t stun_types_text(stun_types_status code, char *text, size_t size);
-static inline const char *stun_types_message_of(uint32_t code) {
+static inline const char *stun_types_status_text(uint32_t code) {
     switch (code) {
     case STUN_TYPES_OK: return "no error";
     case STUN_TYPES_NOT_STUN: return "not a STUN message";
@@ -364,12 +368,13 @@ typedef struct {
 } stun_types_address;
 
 /* The calls below read the value of an attribute that was found in the same bytes.
-   BAD_ARGUMENT: the attribute isn't within the bytes. */
+   BAD_ARGUMENT: the bytes have no value there: it would end after them, or begin before the offset 24,
+   as that of a stun_types_attribute of zeros. */
 
 /* The address in an XOR-MAPPED-ADDRESS, XOR-PEER-ADDRESS or XOR-RELAYED-ADDRESS (RFC 8489, section
    14.2), or in an attribute of a type that the library doesn't know. BAD_ARGUMENT: the type is one of
-   the next call. NOT_STUN, TRUNCATED: the bytes begin with no header, whose transaction ID is needed.
-   TRUNCATED, TOO_LARGE, INVALID_DATA: the value is no address. */
+   the next call. NOT_STUN: the bytes begin with no header, whose transaction ID is needed. TRUNCATED,
+   TOO_LARGE, INVALID_DATA: the value is no address. */
 STUN_TYPES_NODISCARD STUN_TYPES_NONNULL((3, 4))
 stun_types_answer stun_types_read_xor_address(const uint8_t *bytes, size_t length,
                                               const stun_types_attribute *attribute,
@@ -414,8 +419,9 @@ STUN_TYPES_NODISCARD
 size_t stun_types_known_types(uint16_t *types, size_t room);
 
 /* Reads a number of 8, 16, 32 or 64 bits, big-endian. The table at stun_types_add_u8 lists the call
-   for each type that the library knows; any other type is read by the call that has the width of the
-   value. The zeros that follow a number may be any octets, and those of a RESPONSE-PORT may be missing.
+   for each type that the library knows; any other type, and MESSAGE-INTEGRITY,
+   MESSAGE-INTEGRITY-SHA256 and FINGERPRINT, is read by the call that has the width of the value. The
+   zeros that follow a number may be any octets, and those of a RESPONSE-PORT may be missing.
    BAD_ARGUMENT: the value of this type is no number, or a number of another width. TRUNCATED,
    TOO_LARGE: the value has another length than expected. INVALID_DATA: a CHANNEL-NUMBER outside 0x4000
    to 0x4FFF, or an address family that isn't in the table. */
@@ -599,7 +605,7 @@ stun_types_answer stun_types_validate_long_term(const uint8_t *bytes, size_t len
    - what is there. BAD_ARGUMENT: *written is more than size, or what was written is no header with
      whole attributes after it, as its length field counts them;
    - its arguments: the errors that its comment lists;
-   - the order. ENDING_TYPE: stun_types_add or an add of an address is given the type
+   - the order. ENDING_TYPE: stun_types_add, or an add of a number or of an address, is given the type
      MESSAGE-INTEGRITY, MESSAGE-INTEGRITY-SHA256 or FINGERPRINT, which have adds of their own. EXISTS:
      an attribute that blocks the addition is written: nothing follows a FINGERPRINT; a
      MESSAGE-INTEGRITY-SHA256 only a FINGERPRINT; a MESSAGE-INTEGRITY only these two. The type is that
@@ -633,7 +639,8 @@ stun_types_answer stun_types_add(uint8_t *room, size_t size, size_t *written, ui
    a call of another width refuses them. Each call refuses the types whose value is no number:
    addresses, texts, errors, lists, hashes and any octets (DATA, PADDING, ACCESS-TOKEN,
    MOBILITY-TICKET), and USE-CANDIDATE and DONT-FRAGMENT, which stun_types_add adds with a length of 0.
-   A type that the library doesn't know is taken by each call.
+   A type that the library doesn't know is taken by each call. Of MESSAGE-INTEGRITY,
+   MESSAGE-INTEGRITY-SHA256 and FINGERPRINT the error is ENDING_TYPE, not BAD_ARGUMENT.
 
      u8   REQUESTED_TRANSPORT (17 for UDP, 6 for TCP), REQUESTED_ADDRESS_FAMILY (1 for IPv4, 2 for
           IPv6), ADDITIONAL_ADDRESS_FAMILY (2): three zeros follow
@@ -790,23 +797,32 @@ stun_types_answer stun_types_refuse_short_term(const uint8_t *request, size_t re
                                                stun_types_code code, uint8_t *room, size_t size,
                                                size_t *written);
 
+/* What a 401 and a 438 ask the next request to carry (RFC 8489, section 9.2.4). All zeros ask for an
+   empty realm and an empty nonce. */
+typedef struct {
+    const void *realm; /* the text of the REALM */
+    size_t realm_length;
+    const void *nonce; /* the text of the NONCE: it is valid, and was sent to nobody else */
+    size_t nonce_length;
+    const uint16_t *algorithms; /* of PASSWORD-ALGORITHMS, the preferred one first; 0 of them: the
+                                   response has none, and the user's key is by MD5 */
+    size_t algorithms_count;
+    uint64_t reserved;
+} stun_types_asked;
+
 /* The same under long-term credentials, with the code 400, 401 or 438 (section 9.2.4). A 401 and a 438
-   carry REALM and NONCE, and PASSWORD-ALGORITHMS if there are algorithms, the preferred one first. The
-   nonce is valid, and was sent to nobody else. It begins with a cookie that promises algorithms exactly
-   if there are some: otherwise a client would take the response for an attacker's, or its next request
-   would be processed as though with MD5.
-   The errors of stun_types_parse; NOT_A_REQUEST. BAD_ARGUMENT: another code, a password algorithm, or
-   more than 16 of them. For the realm and then for the nonce, INVALID_DATA: it isn't UTF-8, and
-   TOO_LARGE: it has more than 763 bytes. BAD_ARGUMENT: the nonce promises algorithms and there are none,
-   or there are some that it doesn't promise. A 400 has these errors too. TOO_SMALL, as above. Allocates:
-   OUT_OF_MEMORY. */
-STUN_TYPES_NODISCARD STUN_TYPES_NONNULL((12))
+   carry what is asked for. The nonce begins with a cookie that promises algorithms exactly if there are
+   some: otherwise a client would take the response for an attacker's, or its next request would be
+   processed as though with MD5.
+   The errors of stun_types_parse; NOT_A_REQUEST. BAD_ARGUMENT: another code, asked->reserved, a password
+   algorithm, or more than 16 of them. For the realm and then for the nonce, INVALID_DATA: it isn't
+   UTF-8, and TOO_LARGE: it has more than 763 bytes. BAD_ARGUMENT: the nonce promises algorithms and there
+   are none, or there are some that it doesn't promise. A 400 has these errors too. TOO_SMALL, as above.
+   Allocates: OUT_OF_MEMORY. */
+STUN_TYPES_NODISCARD STUN_TYPES_NONNULL((4, 7))
 stun_types_answer stun_types_refuse_long_term(const uint8_t *request, size_t request_length,
-                                              stun_types_code code, const void *realm,
-                                              size_t realm_length, const void *nonce,
-                                              size_t nonce_length, const uint16_t *algorithms,
-                                              size_t algorithms_count, uint8_t *room, size_t size,
-                                              size_t *written);
+                                              stun_types_code code, const stun_types_asked *asked,
+                                              uint8_t *room, size_t size, size_t *written);
 
 /* The security features of a server, which its nonces begin with (RFC 8489, sections 9.2 and 18.1): a
    sum of these. */
@@ -1168,55 +1184,67 @@ typedef struct {
 STUN_TYPES_NODISCARD
 stun_types_turn stun_types_turn_none(void);
 
-typedef struct {
-    uint64_t window;            /* for how many seconds a nonce is valid */
-    uint64_t seed[2];           /* random: it keys the hash of 5-tuples */
-    stun_types_policy policy;   /* which requests are taken, and which integrity attributes count */
-    uint32_t allocations;       /* at most; one that has ended counts until a poll reports it */
-    uint32_t of_user;           /* the most live allocations of one user */
-    uint32_t greatest_lifetime; /* seconds; below 600 it counts as 600 */
-    uint32_t features;          /* as in stun_types_make_nonce. With
-                                   STUN_TYPES_FEATURE_PASSWORD_ALGORITHMS a 401 offers SHA-256 and
-                                   then MD5 */
-    uint32_t channel_permits;   /* not 0: a channel permits its exact peer as long as it lasts */
-    uint32_t old_channels;      /* not 0: channels 0x5000 to 0x7FFF are allowed too (RFC 5766) */
-    uint64_t reserved;
-} stun_types_turn_settings;
-
-/* Addresses whose first length bits are those of this one; its other bits are 0, and its port is
-   ignored. */
+/* Addresses whose first length bits are those of this one. All its other bits are 0, also those of the
+   octets after the four of IPv4, and its port is ignored. A length of 0: all addresses of the family. */
 typedef struct {
     stun_types_address address;
     uint16_t length;
 } stun_types_prefix;
 
+/* What a server is made by. All zeros make one that refuses each Allocate request. */
+typedef struct {
+    uint64_t window;            /* for how many seconds a nonce is valid; 0: in its own second alone */
+    uint64_t seed[2];           /* random: it keys the hash of 5-tuples. With zeros clients can choose
+                                   5-tuples whose hashes collide */
+    stun_types_policy policy;   /* which requests are taken, and which integrity attributes count */
+    uint32_t allocations;       /* at most; one that has ended counts until a poll reports it */
+    uint32_t of_user;           /* the most live allocations of one user */
+    uint32_t greatest_lifetime; /* seconds; below 600, as 0, it counts as 600 */
+    uint32_t features;          /* as in stun_types_make_nonce; 0: none. With
+                                   STUN_TYPES_FEATURE_PASSWORD_ALGORITHMS a 401 offers SHA-256 and
+                                   then MD5 */
+    uint32_t channel_permits;   /* not 0: a channel permits its exact peer as long as it lasts */
+    uint32_t old_channels;      /* not 0: channels 0x5000 to 0x7FFF are allowed too (RFC 5766) */
+    const void *realm;          /* the text of the realm of its users */
+    size_t realm_length;        /* 0: the realm is empty */
+    const void *software;       /* the text of the SOFTWARE of responses that are signed, but a 420. A
+                                   reply to a Binding request has the library's, as by
+                                   stun_types_binding_reply, and a 400, 401, 420 or 438 has none */
+    size_t software_length;     /* 0: they have none either */
+    const stun_types_prefix *denied; /* which peers clients may not reach, and which they may: the
+                                        longest prefix that contains an address decides, of equal ones
+                                        denied, then allowed, then the default (DENIED_BY_DEFAULT of
+                                        crates/turn_table) */
+    size_t denied_count;        /* 0: none is denied but by default */
+    const stun_types_prefix *allowed;
+    size_t allowed_count;       /* 0: none that is denied by default is allowed */
+    const stun_types_address *listening; /* the addresses and ports that clients send to; no client
+                                            reaches them as a peer */
+    size_t listening_count;     /* 0: clients can reach the server itself */
+    uint64_t reserved;
+} stun_types_turn_settings;
+
 /* Makes a server with no allocation. It takes all memory that its table ever needs: some 2,800 bytes
-   for each allocation. realm and software are texts; software is the SOFTWARE of responses that are
-   signed but a 420, and with no bytes they have none. A reply to a Binding request has the library's,
-   as by stun_types_binding_reply, and a 400, 401, 420 or 438 has none. secret makes the nonces, as in
-   stun_types_make_nonce; it is copied. denied, allowed: which peers clients may reach; the longest
-   prefix that contains an address decides, of equal ones denied, then allowed, then the default
-   (DENIED_BY_DEFAULT of crates/turn_table). listening: the addresses and ports that clients send to;
-   each is denied.
-   The first of these: BAD_ARGUMENT: the settings. NO_KEY: there is no secret. BAD_ARGUMENT: it has
-   fewer than 16 bytes. INVALID_DATA, TOO_LARGE: the realm, and then the software, isn't UTF-8, or has
-   more than 763 bytes. BAD_ARGUMENT: a family is neither 4 nor 6; a prefix is longer than an address
+   for each allocation. secret makes the nonces, as in stun_types_make_nonce. The server keeps copies of
+   all that it is given.
+   The first of these: BAD_ARGUMENT: a number of the settings. NO_KEY: there is no secret. BAD_ARGUMENT:
+   it has fewer than 16 bytes. INVALID_DATA, TOO_LARGE: the realm, and then the software, isn't UTF-8, or
+   has more than 763 bytes. BAD_ARGUMENT: a family is neither 4 nor 6; a prefix is longer than an address
    of its family, or one of its other bits is 1. Allocates: OUT_OF_MEMORY. If the call fails, the
    server stays as it was. */
-STUN_TYPES_NODISCARD STUN_TYPES_NONNULL((1, 2, 7))
+STUN_TYPES_NODISCARD STUN_TYPES_NONNULL((1, 2, 3))
 stun_types_answer stun_types_turn_new(stun_types_turn *server,
                                       const stun_types_turn_settings *settings,
-                                      const void *realm, size_t realm_length,
-                                      const void *software, size_t software_length,
-                                      const stun_types_key *secret,
-                                      const stun_types_prefix *denied, size_t denied_count,
-                                      const stun_types_prefix *allowed, size_t allowed_count,
-                                      const stun_types_address *listening, size_t listening_count);
+                                      const stun_types_key *secret);
 
-/* Ends the server and frees its memory, overwriting its secret. With STUN_TYPES_TURN_INIT it does
-   nothing. */
-STUN_TYPES_NONNULL((1))
-void stun_types_turn_free(stun_types_turn *server);
+/* Ends these servers, one after the other in memory, and frees their memory, overwriting their secrets;
+   leaves STUN_TYPES_TURN_INIT for each. */
+void stun_types_turns_free(stun_types_turn *servers, size_t count);
+
+/* The same with one server. With STUN_TYPES_TURN_INIT, and with NULL, it does nothing. */
+static inline void stun_types_turn_free(stun_types_turn *server) {
+    stun_types_turns_free(server, server ? 1 : 0);
+}
 
 /* Who sent a datagram, the address of the server that it came to, and by which transport. */
 typedef struct {
@@ -1232,10 +1260,21 @@ typedef struct {
     uint16_t ipv4, ipv6;
 } stun_types_turn_ready;
 
+/* A client's datagram. All zeros, but for its bytes and where it comes from: a server with no sockets to
+   offer takes it, and no keys were looked up. */
+typedef struct {
+    const uint8_t *bytes;
+    size_t length;
+    stun_types_five_tuple from;
+    stun_types_turn_ready ready;
+    uint16_t looked_up; /* not 0: the keys that are passed are those of its user */
+    uint64_t reserved;
+} stun_types_turn_datagram;
+
 typedef STUN_TYPES_ENUM(stun_types_turn_kind) {
     STUN_TYPES_TURN_NOTHING = 0,  /* nothing is sent */
     STUN_TYPES_TURN_RESPONSE = 1, /* room[0 .. length) goes back to the client, from where it sent to */
-    STUN_TYPES_TURN_TO_PEER = 2,  /* datagram[at .. at + length) goes to peer, from the socket relay */
+    STUN_TYPES_TURN_TO_PEER = 2,  /* bytes[at .. at + length) goes to peer, from the socket relay */
     STUN_TYPES_TURN_NEEDS_KEY = 3 /* find the keys of the user, and call again with them */
 } stun_types_turn_kind;
 
@@ -1253,9 +1292,9 @@ typedef struct {
    clock of the caller's, in nanoseconds since any moment that stays the same; the nonces count its
    whole seconds.
 
-   When a datagram comes, looked_up is false, and both keys may hold none. If the kind is
+   When a datagram comes, looked_up is 0, and both keys may hold none. If the kind is
    STUN_TYPES_TURN_NEEDS_KEY, nothing has changed: it is a signed request, and its USERNAME or USERHASH
-   (stun_types_find) names the user. Call again with the same arguments, looked_up true, and the user's
+   (stun_types_find) names the user. Call again with the same arguments, looked_up 1, and the user's
    keys by MD5 and by SHA-256 (stun_types_key_long_term). If a key holds none, there is no such user.
    With looked_up the kind is never STUN_TYPES_TURN_NEEDS_KEY.
 
@@ -1265,13 +1304,11 @@ typedef struct {
    sends it again it is answered. INVALID_DATA: the same, since the key is made for the other integrity
    algorithm. OUT_OF_MEMORY also if a key can't be copied: nothing has changed, and took is 0.
    BAD_ARGUMENT, and nothing has changed: there is no server, a family is neither 4 nor 6, an address
-   that is ready is of the other family, or stream is neither 0 nor 1.
+   that is ready is of the other family, stream is neither 0 nor 1, or reserved is not 0.
    Allocates, but not for data that goes to a peer. */
-STUN_TYPES_NODISCARD STUN_TYPES_NONNULL((1, 3, 6, 8, 9, 12))
+STUN_TYPES_NODISCARD STUN_TYPES_NONNULL((1, 3, 4, 5, 8))
 stun_types_answer stun_types_turn_client(stun_types_turn *server, uint64_t now,
-                                         const stun_types_five_tuple *from,
-                                         const uint8_t *datagram, size_t length,
-                                         const stun_types_turn_ready *ready, bool looked_up,
+                                         const stun_types_turn_datagram *datagram,
                                          const stun_types_key *md5_key,
                                          const stun_types_key *sha256_key,
                                          uint8_t *room, size_t size,
@@ -1302,8 +1339,8 @@ stun_types_answer stun_types_turn_peer(stun_types_turn *server, uint64_t now,
                                        size_t size, stun_types_turn_delivery *delivery);
 
 /* Ends allocations whose time is over, at most room of them, and writes the numbers of their sockets,
-   to be closed. Returns how many; if that is less than room, none is left. Without a server it is 0.
-   Call it once a second. */
+   to be closed. Returns how many, never more than room; if it is less than room, none is left. Without a
+   server, and if arguments overlap, it is 0. Call it once a second. */
 STUN_TYPES_NODISCARD STUN_TYPES_NONNULL((1))
 size_t stun_types_turn_poll(stun_types_turn *server, uint64_t now, uint64_t *ended, size_t room);
 
@@ -1385,6 +1422,14 @@ STUN_TYPES_LAYOUT(authentication_algorithm, offsetof(stun_types_authentication, 
 STUN_TYPES_LAYOUT(authentication_reply_algorithm, offsetof(stun_types_authentication, reply_algorithm) == 12);
 STUN_TYPES_LAYOUT(authentication_password_algorithm, offsetof(stun_types_authentication, password_algorithm) == 16);
 STUN_TYPES_LAYOUT(authentication_reserved, offsetof(stun_types_authentication, reserved) == 20);
+STUN_TYPES_LAYOUT(asked_size, sizeof(stun_types_asked) == 56);
+STUN_TYPES_LAYOUT(asked_realm, offsetof(stun_types_asked, realm) == 0);
+STUN_TYPES_LAYOUT(asked_realm_length, offsetof(stun_types_asked, realm_length) == 8);
+STUN_TYPES_LAYOUT(asked_nonce, offsetof(stun_types_asked, nonce) == 16);
+STUN_TYPES_LAYOUT(asked_nonce_length, offsetof(stun_types_asked, nonce_length) == 24);
+STUN_TYPES_LAYOUT(asked_algorithms, offsetof(stun_types_asked, algorithms) == 32);
+STUN_TYPES_LAYOUT(asked_algorithms_count, offsetof(stun_types_asked, algorithms_count) == 40);
+STUN_TYPES_LAYOUT(asked_reserved, offsetof(stun_types_asked, reserved) == 48);
 STUN_TYPES_LAYOUT(cookie_size, sizeof(stun_types_cookie) == 13);
 STUN_TYPES_LAYOUT(cookie_bytes, offsetof(stun_types_cookie, bytes) == 0);
 STUN_TYPES_LAYOUT(schedule_size, sizeof(stun_types_schedule) == 40);
@@ -1443,7 +1488,10 @@ STUN_TYPES_LAYOUT(channel_data_length, offsetof(stun_types_channel_data, length)
 STUN_TYPES_LAYOUT(turn_size, sizeof(stun_types_turn) == 16);
 STUN_TYPES_LAYOUT(turn_at, offsetof(stun_types_turn, at) == 0);
 STUN_TYPES_LAYOUT(turn_held, offsetof(stun_types_turn, held) == 8);
-STUN_TYPES_LAYOUT(turn_settings_size, sizeof(stun_types_turn_settings) == 72);
+STUN_TYPES_LAYOUT(prefix_size, sizeof(stun_types_prefix) == 22);
+STUN_TYPES_LAYOUT(prefix_address, offsetof(stun_types_prefix, address) == 0);
+STUN_TYPES_LAYOUT(prefix_length, offsetof(stun_types_prefix, length) == 20);
+STUN_TYPES_LAYOUT(turn_settings_size, sizeof(stun_types_turn_settings) == 152);
 STUN_TYPES_LAYOUT(turn_settings_window, offsetof(stun_types_turn_settings, window) == 0);
 STUN_TYPES_LAYOUT(turn_settings_seed, offsetof(stun_types_turn_settings, seed) == 8);
 STUN_TYPES_LAYOUT(turn_settings_policy, offsetof(stun_types_turn_settings, policy) == 24);
@@ -1453,10 +1501,17 @@ STUN_TYPES_LAYOUT(turn_settings_greatest_lifetime, offsetof(stun_types_turn_sett
 STUN_TYPES_LAYOUT(turn_settings_features, offsetof(stun_types_turn_settings, features) == 52);
 STUN_TYPES_LAYOUT(turn_settings_channel_permits, offsetof(stun_types_turn_settings, channel_permits) == 56);
 STUN_TYPES_LAYOUT(turn_settings_old_channels, offsetof(stun_types_turn_settings, old_channels) == 60);
-STUN_TYPES_LAYOUT(turn_settings_reserved, offsetof(stun_types_turn_settings, reserved) == 64);
-STUN_TYPES_LAYOUT(prefix_size, sizeof(stun_types_prefix) == 22);
-STUN_TYPES_LAYOUT(prefix_address, offsetof(stun_types_prefix, address) == 0);
-STUN_TYPES_LAYOUT(prefix_length, offsetof(stun_types_prefix, length) == 20);
+STUN_TYPES_LAYOUT(turn_settings_realm, offsetof(stun_types_turn_settings, realm) == 64);
+STUN_TYPES_LAYOUT(turn_settings_realm_length, offsetof(stun_types_turn_settings, realm_length) == 72);
+STUN_TYPES_LAYOUT(turn_settings_software, offsetof(stun_types_turn_settings, software) == 80);
+STUN_TYPES_LAYOUT(turn_settings_software_length, offsetof(stun_types_turn_settings, software_length) == 88);
+STUN_TYPES_LAYOUT(turn_settings_denied, offsetof(stun_types_turn_settings, denied) == 96);
+STUN_TYPES_LAYOUT(turn_settings_denied_count, offsetof(stun_types_turn_settings, denied_count) == 104);
+STUN_TYPES_LAYOUT(turn_settings_allowed, offsetof(stun_types_turn_settings, allowed) == 112);
+STUN_TYPES_LAYOUT(turn_settings_allowed_count, offsetof(stun_types_turn_settings, allowed_count) == 120);
+STUN_TYPES_LAYOUT(turn_settings_listening, offsetof(stun_types_turn_settings, listening) == 128);
+STUN_TYPES_LAYOUT(turn_settings_listening_count, offsetof(stun_types_turn_settings, listening_count) == 136);
+STUN_TYPES_LAYOUT(turn_settings_reserved, offsetof(stun_types_turn_settings, reserved) == 144);
 STUN_TYPES_LAYOUT(five_tuple_size, sizeof(stun_types_five_tuple) == 42);
 STUN_TYPES_LAYOUT(five_tuple_client, offsetof(stun_types_five_tuple, client) == 0);
 STUN_TYPES_LAYOUT(five_tuple_server, offsetof(stun_types_five_tuple, server) == 20);
@@ -1468,6 +1523,13 @@ STUN_TYPES_LAYOUT(turn_ready_any_ipv6, offsetof(stun_types_turn_ready, any_ipv6)
 STUN_TYPES_LAYOUT(turn_ready_even_ipv6, offsetof(stun_types_turn_ready, even_ipv6) == 60);
 STUN_TYPES_LAYOUT(turn_ready_ipv4, offsetof(stun_types_turn_ready, ipv4) == 80);
 STUN_TYPES_LAYOUT(turn_ready_ipv6, offsetof(stun_types_turn_ready, ipv6) == 82);
+STUN_TYPES_LAYOUT(turn_datagram_size, sizeof(stun_types_turn_datagram) == 152);
+STUN_TYPES_LAYOUT(turn_datagram_bytes, offsetof(stun_types_turn_datagram, bytes) == 0);
+STUN_TYPES_LAYOUT(turn_datagram_length, offsetof(stun_types_turn_datagram, length) == 8);
+STUN_TYPES_LAYOUT(turn_datagram_from, offsetof(stun_types_turn_datagram, from) == 16);
+STUN_TYPES_LAYOUT(turn_datagram_ready, offsetof(stun_types_turn_datagram, ready) == 58);
+STUN_TYPES_LAYOUT(turn_datagram_looked_up, offsetof(stun_types_turn_datagram, looked_up) == 142);
+STUN_TYPES_LAYOUT(turn_datagram_reserved, offsetof(stun_types_turn_datagram, reserved) == 144);
 STUN_TYPES_LAYOUT(turn_action_size, sizeof(stun_types_turn_action) == 56);
 STUN_TYPES_LAYOUT(turn_action_relay, offsetof(stun_types_turn_action, relay) == 0);
 STUN_TYPES_LAYOUT(turn_action_at, offsetof(stun_types_turn_action, at) == 8);

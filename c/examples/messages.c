@@ -1,5 +1,6 @@
-/* Reads the address in a response, and writes and validates a signed request. The programs
- * messages.cc, .py, .go and .rs do the same, and print the same. */
+/* Reads the address in a response, and writes and validates a signed request; with an argument, a
+ * datagram in hexadecimal, it also prints the reply of a server without credentials, if there is one. The
+ * programs messages.cc, .py, .go and .rs do the same, and print the same. */
 #include <arpa/inet.h>
 #include <stdio.h>
 #include <stun_types.h>
@@ -41,7 +42,26 @@ static stun_types_answer write_request(const stun_types_key *key, uint8_t *room,
     return a;
 }
 
-int main(void) {
+static void print_hex(const uint8_t *bytes, size_t length) {
+    for (size_t at = 0; at < length; at++) printf("%02x", bytes[at]);
+    printf("\n");
+}
+
+/* Prints what a server replies to a datagram from 192.0.2.1:32853. */
+static stun_types_answer show_reply(const char *digits) {
+    static const stun_types_address source = {{192, 0, 2, 1}, 32853, 4};
+    uint8_t datagram[1500], reply[1548]; /* a reply is at most 48 bytes longer */
+    size_t length = 0, reply_length;
+    unsigned byte;
+    while (length < sizeof datagram && sscanf(digits + 2 * length, "%2x", &byte) == 1)
+        datagram[length++] = (uint8_t)byte;
+    stun_types_answer a =
+        stun_types_binding_reply(datagram, length, &source, reply, sizeof reply, &reply_length);
+    if (!a.code) print_hex(reply, reply_length);
+    return a;
+}
+
+int main(int count, char **arguments) {
     stun_types_key key = STUN_TYPES_KEY_INIT;
     stun_types_policy policy = STUN_TYPES_POLICY_BOTH;
     stun_types_validated validated;
@@ -52,8 +72,8 @@ int main(void) {
     if (!a.code) a = write_request(&key, request, sizeof request, &length);
     if (!a.code) a = stun_types_validate_by_policy(request, length, &policy, &key, &validated);
     stun_types_key_free(&key);
-    if (a.code) return fprintf(stderr, "%s\n", stun_types_message_of(a.code)), 1;
-    for (size_t at = 0; at < length; at++) printf("%02x", request[at]);
-    printf("\n");
+    if (!a.code) print_hex(request, length);
+    if (!a.code && count > 1) a = show_reply(arguments[1]);
+    if (a.code) return fprintf(stderr, "%s\n", stun_types_status_text(a.code)), 1;
     return 0;
 }

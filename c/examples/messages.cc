@@ -11,7 +11,7 @@ static const std::vector<uint8_t> response{
     0xfa, 0x87, 0xdf, 0xae, 0x00, 0x20, 0x00, 0x08, 0x00, 0x01, 0xa1, 0x47, 0xe1, 0x12, 0xa6, 0x43};
 
 static void check(stun_types_answer answer) {
-    if (answer.code != STUN_TYPES_OK) throw std::runtime_error(stun_types_message_of(answer.code));
+    if (answer.code != STUN_TYPES_OK) throw std::runtime_error(stun_types_status_text(answer.code));
 }
 
 // The key of a short-term credential. It is freed with the object, and not copied.
@@ -53,7 +53,23 @@ static std::vector<uint8_t> signed_request(const std::string &user, const Key &k
     return room;
 }
 
-int main() try {
+// What a server without credentials replies to a datagram from 192.0.2.1:32853; no bytes if nothing.
+static std::vector<uint8_t> reply_to(const std::vector<uint8_t> &datagram) {
+    const stun_types_address source{{192, 0, 2, 1}, 32853, 4};
+    std::vector<uint8_t> room(datagram.size() + 48); // a reply is at most so much longer
+    size_t length = 0;
+    check(stun_types_binding_reply(datagram.data(), datagram.size(), &source, room.data(), room.size(),
+                                   &length));
+    room.resize(length);
+    return room;
+}
+
+static void print_hex(const std::vector<uint8_t> &bytes) {
+    for (auto byte : bytes) std::printf("%02x", byte);
+    std::printf("\n");
+}
+
+int main(int count, char **arguments) try {
     auto address = address_in(response);
     const bool is_six = address.family == 6;
     char ip[INET6_ADDRSTRLEN] = "";
@@ -65,8 +81,12 @@ int main() try {
     stun_types_validated validated;
     check(stun_types_validate_by_policy(request.data(), request.size(), &both, &key.key,
                                         &validated));
-    for (auto byte : request) std::printf("%02x", byte);
-    std::printf("\n");
+    print_hex(request);
+    const std::string digits = count > 1 ? arguments[1] : "";
+    std::vector<uint8_t> datagram;
+    for (size_t at = 0; at + 1 < digits.size(); at += 2)
+        datagram.push_back(static_cast<uint8_t>(std::stoul(digits.substr(at, 2), nullptr, 16)));
+    if (count > 1) print_hex(reply_to(datagram));
 } catch (const std::exception &error) {
     std::fprintf(stderr, "%s\n", error.what());
     return 1;

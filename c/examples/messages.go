@@ -10,6 +10,7 @@ import (
 	"fmt"
 	"log"
 	"net/netip"
+	"os"
 	"unsafe"
 )
 
@@ -17,7 +18,7 @@ const response = "0101000c2112a442b7e7a701bc34d686fa87dfae002000080001a147e112a6
 
 func check(answer C.stun_types_answer) {
 	if answer.code != C.STUN_TYPES_OK {
-		log.Fatal(C.GoString(C.stun_types_message_of(C.uint32_t(answer.code))))
+		log.Fatal(C.GoString(C.stun_types_status_text(C.uint32_t(answer.code))))
 	}
 }
 
@@ -57,6 +58,20 @@ func signedRequest(user []byte, key *C.stun_types_key) []byte {
 	return bytes[:length]
 }
 
+// replyTo returns what a server without credentials replies to a datagram from 192.0.2.1:32853; no bytes
+// if nothing.
+func replyTo(datagram []byte) []byte {
+	source := C.stun_types_address{port: 32853, family: 4}
+	for at, octet := range []C.uint8_t{192, 0, 2, 1} {
+		source.octets[at] = octet
+	}
+	bytes := make([]byte, len(datagram)+48) // a reply is at most so much longer
+	var length C.size_t
+	check(C.stun_types_binding_reply(data(datagram), C.size_t(len(datagram)), &source, data(bytes),
+		C.size_t(len(bytes)), &length))
+	return bytes[:length]
+}
+
 func main() {
 	message, _ := hex.DecodeString(response)
 	fmt.Println(addressIn(message))
@@ -70,4 +85,8 @@ func main() {
 	length := C.size_t(len(request))
 	check(C.stun_types_validate_by_policy(data(request), length, &both, &key, &validated))
 	fmt.Println(hex.EncodeToString(request))
+	if len(os.Args) > 1 {
+		datagram, _ := hex.DecodeString(os.Args[1])
+		fmt.Println(hex.EncodeToString(replyTo(datagram)))
+	}
 }

@@ -1,7 +1,7 @@
 #!/usr/bin/env python3
 """Reads the address in a response, and writes and validates a signed request, as messages.c does.
 
-python3 messages.py [LIBRARY]    LIBRARY is by default what the loader finds as libstun_types.so.0.1
+python3 messages.py [LIBRARY [DATAGRAM]]    LIBRARY is by default what the loader finds as libstun_types.so.0.1
 """
 import ipaddress
 import sys
@@ -43,6 +43,7 @@ CALLS = {
     "stun_types_add": (Answer, *ROOM, c_uint16, c_char_p, c_size_t),
     "stun_types_add_integrity": (Answer, *ROOM, POINTER(Key), c_uint32),
     "stun_types_add_fingerprint": (Answer, *ROOM),
+    "stun_types_binding_reply": (Answer, c_char_p, c_size_t, POINTER(Address), *ROOM),
     "stun_types_validate_by_policy": (Answer, c_char_p, c_size_t, POINTER(Policy), POINTER(Key),
                                       POINTER(Validated)),
 }
@@ -86,6 +87,14 @@ def signed_request(stun, user, key):
     return room.raw[: length.value]
 
 
+def reply_to(stun, datagram):
+    """What a server without credentials replies to a datagram from 192.0.2.1:32853; no bytes if nothing."""
+    source, length = Address((192, 0, 2, 1), 32853, 4), c_size_t()
+    room = create_string_buffer(len(datagram) + 48)  # a reply is at most so much longer
+    stun.stun_types_binding_reply(datagram, len(datagram), source, room, len(room), length)
+    return room.raw[: length.value]
+
+
 def main():
     stun = load(sys.argv[1] if len(sys.argv) > 1 else "libstun_types.so.0.1")
     print(address_in(stun, RESPONSE))
@@ -95,6 +104,8 @@ def main():
     stun.stun_types_validate_by_policy(request, len(request), both, key, validated)
     stun.stun_types_keys_free(key, 1)
     print(request.hex())
+    if len(sys.argv) > 2:
+        print(reply_to(stun, bytes.fromhex(sys.argv[2])).hex())
 
 
 if __name__ == "__main__":

@@ -38,6 +38,7 @@ mod stun {
         pub fn stun_types_add(room: *mut u8, size: usize, written: *mut usize, r#type: u16, value: *const u8, length: usize) -> Answer;
         pub fn stun_types_add_integrity(room: *mut u8, size: usize, written: *mut usize, key: *const Key, algorithm: u32) -> Answer;
         pub fn stun_types_add_fingerprint(room: *mut u8, size: usize, written: *mut usize) -> Answer;
+        pub fn stun_types_binding_reply(bytes: *const u8, length: usize, source: *const Address, room: *mut u8, size: usize, reply_length: *mut usize) -> Answer;
         pub fn stun_types_validate_by_policy(bytes: *const u8, length: usize, policy: *const Policy, key: *const Key, validated: *mut Validated) -> Answer;
     }
 }
@@ -92,6 +93,28 @@ fn signed_request(user: &str, key: &Key) -> Result<Vec<u8>, String> {
     Ok(room[..length].to_vec())
 }
 
+/// What a server without credentials replies to a datagram from 192.0.2.1:32853; no bytes if nothing.
+fn reply_to(datagram: &[u8]) -> Result<Vec<u8>, String> {
+    let mut source = Address { port: 32853, family: 4, ..Address::default() };
+    source.octets[..4].copy_from_slice(&[192, 0, 2, 1]);
+    let mut room = vec![0; datagram.len() + 48]; // a reply is at most so much longer
+    let (bytes, size, mut length) = (datagram.as_ptr(), datagram.len(), 0);
+    let (at, most) = (room.as_mut_ptr(), room.len());
+    check(unsafe { stun_types_binding_reply(bytes, size, &source, at, most, &mut length) })?;
+    room.truncate(length);
+    Ok(room)
+}
+
+fn bytes_of(digits: &str) -> Result<Vec<u8>, String> {
+    let pairs = (0..digits.len()).step_by(2);
+    let read = pairs.map(|at| u8::from_str_radix(digits.get(at..at + 2).unwrap_or("?"), 16));
+    read.collect::<Result<_, _>>().map_err(|error| error.to_string())
+}
+
+fn hex(bytes: &[u8]) -> String {
+    bytes.iter().map(|byte| format!("{byte:02x}")).collect()
+}
+
 fn main() -> Result<(), String> {
     println!("{}", address_in(RESPONSE)?);
     let (at, held, password) = (std::ptr::null_mut(), 0, "wonderland");
@@ -101,7 +124,9 @@ fn main() -> Result<(), String> {
     let (bytes, size) = (request.as_ptr(), request.len());
     let (policy, mut validated) = (Policy::default(), Validated::default()); // both algorithms count
     check(unsafe { stun_types_validate_by_policy(bytes, size, &policy, &key, &mut validated) })?;
-    let hex: String = request.iter().map(|byte| format!("{byte:02x}")).collect();
-    println!("{hex}");
+    println!("{}", hex(&request));
+    if let Some(digits) = std::env::args().nth(1) {
+        println!("{}", hex(&reply_to(&bytes_of(&digits)?)?));
+    }
     Ok(())
 }

@@ -82,7 +82,7 @@ static void print_refusal(stun_types_answer answer) {
     case STUN_TYPES_TRUNCATED: printf("truncated %llu %llu\n", expected, actual); break;
     case STUN_TYPES_TOO_LARGE: printf("too large %llu %llu\n", expected, actual); break;
     case STUN_TYPES_FINGERPRINT_MISMATCH: puts("fingerprint mismatch"); break;
-    default: puts(stun_types_message_of(answer.code)); break;
+    default: puts(stun_types_status_text(answer.code)); break;
     }
 }
 
@@ -133,7 +133,7 @@ static int show_with(const char *password) {
     stun_types_key key = STUN_TYPES_KEY_INIT;
     if (!is_utf8(password, strlen(password))) return fail("usage: stun_show [password]");
     stun_types_answer made = stun_types_key_short_term(&key, password, strlen(password));
-    if (made.code != STUN_TYPES_OK) return fail(stun_types_message_of(made.code));
+    if (made.code != STUN_TYPES_OK) return fail(stun_types_status_text(made.code));
     int status = show(&key);
     stun_types_key_free(&key);
     return status;

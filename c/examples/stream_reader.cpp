@@ -68,7 +68,7 @@ public:
 
     bool is_between_messages() const { return stream_.pending == 0; }
     std::uint64_t offset() const { return stream_.offset; }
-    const char *why() const { return stun_types_message_of(error_.code); }
+    const char *why() const { return stun_types_status_text(error_.code); }
 
 private:
     stun_types_stream stream_{};
@@ -86,7 +86,7 @@ std::string text_of(Bytes message) {
         text.resize(static_cast<std::size_t>(answer.expected));
         answer = stun_types_print(message.at, message.length, text.data(), text.size(), &written);
     }
-    if (answer.code != STUN_TYPES_OK) return stun_types_message_of(answer.code);
+    if (answer.code != STUN_TYPES_OK) return stun_types_status_text(answer.code);
     text.resize(written);
     return text;
 }
@@ -97,7 +97,7 @@ std::string verdict_of(Bytes message, const Key &key) {
     stun_types_validated validated;
     stun_types_answer answer =
         stun_types_validate_by_policy(message.at, message.length, &strict, key.get(), &validated);
-    if (answer.code != STUN_TYPES_OK) return stun_types_message_of(answer.code);
+    if (answer.code != STUN_TYPES_OK) return stun_types_status_text(answer.code);
     return validated.algorithm == STUN_TYPES_INTEGRITY_SHA256 ? "authentic by SHA-256" : "authentic by SHA-1";
 }
 

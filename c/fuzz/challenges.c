@@ -92,6 +92,20 @@ static void check_decision(const uint8_t *request, size_t length, number_list al
     HOLDS(memcmp(decided, &expected, sizeof expected) == 0);
 }
 
+/* What the server asks for, in its realm. */
+static const stun_types_asked *asked_for(const char *realm, const uint8_t *nonce, size_t length,
+                                         number_list algorithms) {
+    stun_types_asked it;
+    memset(&it, 0, sizeof it);
+    it.realm = realm;
+    it.realm_length = strlen(realm);
+    it.nonce = nonce;
+    it.nonce_length = length;
+    it.algorithms = algorithms.all;
+    it.algorithms_count = algorithms.count;
+    return copy_of(&it, sizeof it);
+}
+
 /* A server asks for credentials, a client answers, the server accepts, and the client takes the reply:
    whatever the user, the password, the realm and the lists are. If the client has the wrong password,
    the server refuses. */
@@ -132,9 +146,9 @@ static void check_exchange(source *from) {
                               &nonce_length)
                 .code
             != STUN_TYPES_OK
-        || stun_types_refuse_long_term(first.bytes, first.length, (stun_types_code)401, realm,
-                                       strlen(realm), nonce, nonce_length, algorithms.all,
-                                       algorithms.count, asks, 600, &asks_length)
+        || stun_types_refuse_long_term(first.bytes, first.length, (stun_types_code)401,
+                                       asked_for(realm, nonce, nonce_length, algorithms), asks,
+                                       600, &asks_length)
                    .code
                != STUN_TYPES_OK
         || stun_types_key_for(&client_key, asks, asks_length, supported.all, supported.count,

@@ -148,18 +148,21 @@ static void check_refusing(const text *request, const uint8_t *bytes, uint32_t o
     number_list algorithms = take_numbers(from, true);
     size_t size = how / 64 == 3 ? take(from) : 2000, *written = NEW(size_t);
     uint8_t *room = place(size);
+    const stun_types_asked it = {carried[0].bytes, carried[0].length, carried[1].bytes,
+                                 carried[1].length, algorithms.all,  algorithms.count,
+                                 how == 251 ? take(from) : 0};
+    const stun_types_asked *asked = copy_of(&it, sizeof it);
     stun_types_answer fault = model_parse(request->bytes, request->length), answer;
     answer = is_short
                  ? stun_types_refuse_short_term(bytes, request->length, (stun_types_code)code, room,
                                                 size, written)
                  : stun_types_refuse_long_term(bytes, request->length, (stun_types_code)code,
-                                               carried[0].bytes, carried[0].length,
-                                               carried[1].bytes, carried[1].length, algorithms.all,
-                                               algorithms.count, room, size, written);
+                                               asked, room, size, written);
     if (fault.code == STUN_TYPES_OK && (model_number(request->bytes) & 0x0110) != 0)
         fault = model_answer(STUN_TYPES_NOT_A_REQUEST, 0, 0, 0);
     if (fault.code == STUN_TYPES_OK && code != 400 && code != 401 && (is_short || code != 438))
         fault = BAD_ARGUMENT;
+    if (fault.code == STUN_TYPES_OK && !is_short && it.reserved != 0) fault = BAD_ARGUMENT;
     if (fault.code == STUN_TYPES_OK && !is_short) fault = demand_fault(carried, algorithms);
     if (fault.code == STUN_TYPES_OK) {
         refused(&wanted, request, code, is_short ? NULL : carried, algorithms);

@@ -15,12 +15,15 @@ static stun_types_protocol protocol(unsigned first) {
 
 static void check_code_text(source *from) {
     uint32_t code = take_below(from, STUN_TYPES_HMAC_TOO_SHORT + 2, 8);
-    const char *wanted = stun_types_message_of(code);
+    const char *wanted = stun_types_status_text(code);
     size_t length = strlen(wanted) + 1, size = take(from) % (length + 8);
     char *room = place(size);
     HOLDS(stun_types_text((stun_types_status)code, room, size) == length);
-    HOLDS(memcmp(room, wanted, size < length ? size : length) == 0);
-    if (size > length) HOLDS(is_filled(room + length, size - length));
+    if (size != 0) {
+        size_t written = size < length ? size : length;
+        HOLDS(memcmp(room, wanted, written - 1) == 0 && room[written - 1] == 0);
+        HOLDS(is_filled(room + written, size - written));
+    }
 }
 
 static void check_known_types(source *from) {

@@ -260,33 +260,44 @@ static stun_types_turn_ready ready_of(unsigned how, uint16_t port_of_next) {
     return ready;
 }
 
+/* The message as a datagram from there. */
+static const stun_types_turn_datagram *datagram_of(const stun_types_five_tuple *tuple,
+                                                   const stun_types_turn_ready *ready,
+                                                   bool looked_up) {
+    stun_types_turn_datagram it;
+    memset(&it, 0, sizeof it);
+    it.bytes = give(message.bytes, message.length);
+    it.length = message.length;
+    it.from = *tuple;
+    it.ready = *ready;
+    it.looked_up = looked_up;
+    return copy_of(&it, sizeof it);
+}
+
 static void check_client(source *from, const stun_types_five_tuple *tuple, uint16_t next) {
     unsigned how = take(from), user;
-    const stun_types_turn_ready sockets = ready_of(how, next),
-                                *ready = copy_of(&sockets, sizeof sockets);
-    const stun_types_five_tuple *came = copy_of(tuple, sizeof *tuple);
-    const uint8_t *bytes = give(message.bytes, message.length);
+    const stun_types_turn_ready ready = ready_of(how, next);
     size_t size = how == 255 ? take(from) : RESPONSE;
     uint8_t *room = place(size);
     stun_types_turn_action *action = NEW(stun_types_turn_action);
     stun_types_answer answer;
     model_turn_done done;
-    model_turn_client(&model, now, tuple, ready, message.bytes, message.length, &done);
+    model_turn_client(&model, now, tuple, &ready, message.bytes, message.length, &done);
     user = model_turn_user(&model, message.bytes, message.length);
-    answer = stun_types_turn_client(server, now, came, bytes, message.length, ready, how / 64 == 3,
+    answer = stun_types_turn_client(server, now, datagram_of(tuple, &ready, how / 64 == 3),
                                     &pairs[NO_KEY].key, &pairs[NO_KEY].key, room, size, action);
     if (how / 64 == 3 && done.is_request) {
         /* (nobody's keys, as for an unknown user: a request that is accepted changes the model) */
         HOLDS(action->kind != STUN_TYPES_TURN_NEEDS_KEY && action->took == 0);
         HOLDS(answer.code != STUN_TYPES_OK || (action->code >= 400 && action->code <= 438));
         memset(room, FILL, size);
-        answer = stun_types_turn_client(server, now, came, bytes, message.length, ready, false,
+        answer = stun_types_turn_client(server, now, datagram_of(tuple, &ready, false),
                                         &pairs[NO_KEY].key, &pairs[NO_KEY].key, room, size, action);
     }
     if (answer.code == STUN_TYPES_OK && action->kind == STUN_TYPES_TURN_NEEDS_KEY) {
         HOLDS(done.is_request && is_filled(room, size) && action->took == 0 && action->code == 0);
         answer = stun_types_turn_client(
-            server, now, came, bytes, message.length, ready, true,
+            server, now, datagram_of(tuple, &ready, true),
             user < MODEL_TURN_USERS ? &keys[user][0]->key : &pairs[NO_KEY].key,
             user < MODEL_TURN_USERS ? &keys[user][1]->key : &pairs[NO_KEY].key, room, size, action);
     }
@@ -356,6 +367,7 @@ static void check_arguments(source *from, const stun_types_five_tuple *tuple) {
     unsigned how = take(from);
     stun_types_five_tuple other = *tuple;
     stun_types_turn_ready ready = ready_of(0, 50000);
+    stun_types_turn_datagram datagram;
     stun_types_turn_action *action = NEW(stun_types_turn_action);
     uint8_t *room = place(RESPONSE);
     uint16_t *const fields[] = {&other.client.family,    &other.server.family,
@@ -363,10 +375,10 @@ static void check_arguments(source *from, const stun_types_five_tuple *tuple) {
                                 &ready.even_ipv4.family, &ready.any_ipv6.family,
                                 &ready.even_ipv6.family};
     uint16_t *field = fields[how % COUNT(fields)];
-    *field = (uint16_t)(how / 16 == 15 ? take_two(from) | 8 : *field == 6 && how % 2 == 1 ? 5 : 3);
-    HOLDS(is_same(stun_types_turn_client(server, now, copy_of(&other, sizeof other),
-                                         give(message.bytes, message.length), message.length,
-                                         copy_of(&ready, sizeof ready), how % 3 == 0,
+    if (how % 16 != 9) *field = (uint16_t)(how / 16 == 15 ? take_two(from) | 8 : *field == 6 && how % 2 == 1 ? 5 : 3);
+    datagram = *datagram_of(&other, &ready, how % 3 == 0);
+    if (how % 16 == 9) datagram.reserved = (uint64_t)1 << take(from) % 64;
+    HOLDS(is_same(stun_types_turn_client(server, now, copy_of(&datagram, sizeof datagram),
                                          &pairs[LOGIN_MD5].key, &pairs[LOGIN_SHA256].key, room,
                                          RESPONSE, action),
                   BAD_ARGUMENT));
@@ -402,6 +414,12 @@ static bool begin(source *from) {
     keys[1][1] = &pairs[LONG_KEY];
     if (more / 4 % 8 == 7) settings.policy = *take_policy(from);
     if (more == 255) settings.reserved = take(from);
+    settings.realm = copy_of("realm", 5);
+    settings.realm_length = 5;
+    settings.software = copy_of("a server", 8);
+    settings.software_length = more / 128 * 8u;
+    settings.listening = copy_of(&own, sizeof own);
+    settings.listening_count = 1;
     model.settings = settings;
     model.realm.bytes = (const uint8_t *)"realm";
     model.realm.length = 5;
@@ -416,9 +434,7 @@ static bool begin(source *from) {
     }
     server = NEW(stun_types_turn);
     *server = stun_types_turn_none();
-    answer = stun_types_turn_new(server, copy_of(&settings, sizeof settings), copy_of("realm", 5),
-                                 5, copy_of("a server", 8), more / 128 * 8u, &pairs[SECRET].key,
-                                 NULL, 0, NULL, 0, copy_of(&own, sizeof own), 1);
+    answer = stun_types_turn_new(server, copy_of(&settings, sizeof settings), &pairs[SECRET].key);
     if (settings.reserved == 0 && model_is_policy(&settings.policy)) {
         HOLDS(answer.code == STUN_TYPES_OK && server->at != NULL);
         return true;
@@ -492,6 +508,7 @@ void check_turn(source *from) {
         release_places(first);
         check_event(from);
     }
+    stun_types_turns_free(server, how % 2);
     stun_types_turn_free(server);
     HOLDS(server->at == NULL && server->held == 0);
 }

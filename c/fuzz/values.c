@@ -5,7 +5,8 @@
 
 /* What is said of an attribute before its value is read. */
 static stun_types_answer place_fault(size_t length, const stun_types_attribute *attribute) {
-    return attribute->value_at > length || attribute->length > length - attribute->value_at
+    return attribute->value_at < 24 || attribute->value_at > length
+                   || attribute->length > length - attribute->value_at
                ? BAD_ARGUMENT
                : FINE;
 }
@@ -129,5 +130,6 @@ void check_outside(const uint8_t *bytes, size_t length, source *from) {
                                                         : take_two(from);
     any.type = (uint16_t)(take(from) % 2 == 0 ? take_two(from) : take(from) % 0x40);
     any.length = (uint16_t)(take(from) % 2 == 0 ? take_two(from) : take(from) % 24);
+    if (take(from) % 8 == 7) memset(&any, 0, sizeof any);
     check_values(bytes, length, copy_of(&any, sizeof any), from);
 }

@@ -40,7 +40,7 @@ void show(const char *direction, const message *shown) {
     if (is_fine(answer)) {
         fprintf(stderr, "%s %.*s\n", direction, (int)length, text);
     } else {
-        const char *why = stun_types_message_of(answer.code);
+        const char *why = stun_types_status_text(answer.code);
         fprintf(stderr, "%s %zu bytes: %s\n", direction, shown->length, why);
     }
 }
@@ -197,7 +197,7 @@ static int exchange(const uint16_t *understood, size_t count, stun_types_receive
         stun_types_answer answer = stun_types_transaction_begin(
             &transaction, request.bytes, request.length, &schedule,
             asked.reliable ? STUN_TYPES_TCP : STUN_TYPES_UDP, protection(), &key, milliseconds());
-        if (!is_fine(answer)) return say(STATUS_BROKEN, "%s", stun_types_message_of(answer.code));
+        if (!is_fine(answer)) return say(STATUS_BROKEN, "%s", stun_types_status_text(answer.code));
         end = carry(&transaction, understood, count, taken);
     } while (end == STUN_TYPES_TRANSPORT_FAILED && !heard && connect_next(&server));
     return end == STUN_TYPES_ANSWERED ? STATUS_DONE : tell_end(end, taken);
@@ -255,7 +255,7 @@ int ask(stun_types_method method, write_body *write, const uint16_t *understood,
     stun_types_received taken;
     for (int sent = 1;; sent++) {
         if (!write_request(method, write)) {
-            return say(STATUS_BROKEN, "the request can't be made: %s", stun_types_message_of(refusal));
+            return say(STATUS_BROKEN, "the request can't be made: %s", stun_types_status_text(refusal));
         }
         int status = exchange(understood, count, &taken);
         if (status != STATUS_DONE) return status;
@@ -265,7 +265,7 @@ int ask(stun_types_method method, write_body *write, const uint16_t *understood,
         if (answer.code == STUN_TYPES_SAME_CREDENTIALS) return tell_error(taken.number);
         if (!is_fine(answer)) {
             return say(answer.code == STUN_TYPES_OUT_OF_MEMORY ? STATUS_BROKEN : STATUS_REFUSED, "%s",
-                       stun_types_message_of(answer.code));
+                       stun_types_status_text(answer.code));
         }
     }
 }

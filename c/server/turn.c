@@ -18,7 +18,6 @@ static struct {
     stun_types_turn_settings settings;
     stun_types_prefix denied[MOST_PREFIXES], allowed[MOST_PREFIXES];
     stun_types_address listening[MOST_LISTENING];
-    size_t denied_count, allowed_count, listening_count;
     uint8_t secret[SECRET_LENGTH]; /* of the nonces of all processes */
     rate_table *users;
 } plan;
@@ -59,6 +58,7 @@ bool complain(const char *what) {
 
 static void set_settings(void) {
     bool has_hashes = text_setting(SECRET, 0) == NULL; /* a hash doesn't say until when it is valid */
+    const char *realm = text_setting(REALM, 0), *software = setting(SOFTWARE) ? "stun-types" : "";
     plan.settings.window = setting(NONCE_LIFETIME);
     plan.settings.allocations = setting(ALLOCATIONS);
     plan.settings.of_user = setting(USER_ALLOCATIONS);
@@ -67,24 +67,22 @@ static void set_settings(void) {
     if (has_hashes) plan.settings.features |= STUN_TYPES_FEATURE_USERNAME_ANONYMITY;
     plan.settings.channel_permits = setting(CHANNEL_PERMITS);
     plan.settings.old_channels = setting(OLD_CHANNELS);
+    plan.settings.realm = realm;
+    plan.settings.realm_length = strlen(realm);
+    plan.settings.software = software;
+    plan.settings.software_length = strlen(software);
 }
 
 /* Makes a TURN server. */
 static bool make_server(stun_types_turn *made) {
-    const char *realm = text_setting(REALM, 0), *software = setting(SOFTWARE) ? "stun-types" : "";
     stun_types_key secret = STUN_TYPES_KEY_INIT;
     size_t length = sizeof plan.settings.seed;
     if (getrandom(plan.settings.seed, length, 0) != (ssize_t)length) return cannot("no random numbers");
     stun_types_answer answer = stun_types_key_from_bytes(&secret, plan.secret, sizeof plan.secret,
                                                          STUN_TYPES_INTEGRITY_ANY);
-    if (answer.code == STUN_TYPES_OK) {
-        answer = stun_types_turn_new(made, &plan.settings, realm, strlen(realm), software,
-                                     strlen(software), &secret, plan.denied, plan.denied_count,
-                                     plan.allowed, plan.allowed_count, plan.listening,
-                                     plan.listening_count);
-    }
+    if (answer.code == STUN_TYPES_OK) answer = stun_types_turn_new(made, &plan.settings, &secret);
     stun_types_key_free(&secret);
-    return answer.code == STUN_TYPES_OK || complain(stun_types_message_of(answer.code));
+    return answer.code == STUN_TYPES_OK || complain(stun_types_status_text(answer.code));
 }
 
 bool prepare_turn(const endpoints *of) {
@@ -102,9 +100,12 @@ bool prepare_turn(const endpoints *of) {
         return cannot("no random numbers");
     }
     set_settings();
-    plan.denied_count = read_prefixes(DENY, plan.denied);
-    plan.allowed_count = read_prefixes(ALLOW, plan.allowed);
-    plan.listening_count = list_listening(of, plan.listening);
+    plan.settings.denied = plan.denied;
+    plan.settings.denied_count = read_prefixes(DENY, plan.denied);
+    plan.settings.allowed = plan.allowed;
+    plan.settings.allowed_count = read_prefixes(ALLOW, plan.allowed);
+    plan.settings.listening = plan.listening;
+    plan.settings.listening_count = list_listening(of, plan.listening);
     if ((plan.users = make_rate_table()) == NULL || !make_server(&tried)) return false;
     stun_types_turn_free(&tried);
     return true;
@@ -139,12 +140,16 @@ void begin_turn_at(uint64_t now) {
 
 /* ---- From a client --------------------------------------------------------------------------- */
 
-static stun_types_answer pass_on(const turn_client *from, const uint8_t *datagram, size_t length,
+static stun_types_answer pass_on(const turn_client *from, const uint8_t *bytes, size_t length,
                                  bool looked_up, uint8_t *room, size_t size,
                                  stun_types_turn_action *action) {
-    return stun_types_turn_client(&turn.server, turn.now, &from->tuple, datagram, length,
-                                  ready_sockets(), looked_up, &turn.keys.md5, &turn.keys.sha256, room,
-                                  size, action);
+    const stun_types_turn_datagram datagram = {.bytes = bytes,
+                                               .length = length,
+                                               .from = from->tuple,
+                                               .ready = *ready_sockets(),
+                                               .looked_up = looked_up};
+    return stun_types_turn_client(&turn.server, turn.now, &datagram, &turn.keys.md5,
+                                  &turn.keys.sha256, room, size, action);
 }
 
 static void free_keys(void) {
@@ -348,7 +353,7 @@ void look_after_relays(void) {
     size_t count;
     do {
         count = stun_types_turn_poll(&turn.server, turn.now, ended, MANY);
-        for (size_t i = 0; i < count && i < MANY; i++) end_relay(ended[i]);
+        for (size_t i = 0; i < count; i++) end_relay(ended[i]);
     } while (count == MANY);
     open_spares(turn.process.mine);
 }

@@ -173,6 +173,11 @@ static const struct {
     {"IPv4 as the additional family", 8, 0x8000, 1, 28, STUN_TYPES_OUT_OF_RANGE, 0, 2, 1, NULL},
     {"MESSAGE-INTEGRITY", 32, 0x0008, 1, 60, STUN_TYPES_ENDING_TYPE, 0x0008, 0, 0, NULL},
     {"FINGERPRINT", 32, 0x8028, 1, 60, STUN_TYPES_ENDING_TYPE, 0x8028, 0, 0, NULL},
+    {"FINGERPRINT of an octet", 8, 0x8028, 1, 60, STUN_TYPES_ENDING_TYPE, 0x8028, 0, 0, NULL},
+    {"MESSAGE-INTEGRITY-SHA256 of two", 16, 0x001C, 1, 60, STUN_TYPES_ENDING_TYPE, 0x001C, 0, 0,
+     NULL},
+    {"MESSAGE-INTEGRITY of eight", 64, 0x0008, 1, 60, STUN_TYPES_ENDING_TYPE, 0x0008, 0, 0, NULL},
+    {"FINGERPRINT, and no room", 32, 0x8028, 1, 20, STUN_TYPES_ENDING_TYPE, 0x8028, 0, 0, NULL},
     {"a byte too few for an octet", 8, 0x7FFF, 1, 27, STUN_TYPES_TOO_SMALL, 0, 28, 27, NULL},
     {"a byte too few for a protocol", 8, 0x0019, 1, 27, STUN_TYPES_TOO_SMALL, 0, 28, 27, NULL},
     {"a byte too few for a tiebreaker", 64, 0x8029, 1, 31, STUN_TYPES_TOO_SMALL, 0, 32, 31, NULL},
@@ -236,23 +241,23 @@ static void test_read_numbers(void) {
     size_t i;
     uint64_t number;
     for (i = 0; i < COUNT(read); i++) {
-        slice value;
+        static const size_t outside[] = {0, 23, 25, SIZE_MAX};
+        slice bytes;
         stun_types_attribute attribute;
+        size_t at;
         row("numbers that are read", read[i].name);
-        value = hex(read[i].value);
-        attribute.value_at = 0;
+        bytes = joined(hex("00*24"), hex(read[i].value));
+        attribute.value_at = 24;
         attribute.type = read[i].type;
-        attribute.length = (uint16_t)value.length;
-        ANSWERS(read_number(read[i].bits, value, &attribute, &number),
+        attribute.length = (uint16_t)(bytes.length - 24);
+        ANSWERS(read_number(read[i].bits, bytes, &attribute, &number),
                 LENGTHS(read[i].code, read[i].expected, read[i].actual));
         if (read[i].code == STUN_TYPES_OK) CHECK(number == read[i].number);
-        /* an attribute that isn't within the bytes */
-        attribute.value_at = 1;
-        ANSWERS(read_number(read[i].bits, value, &attribute, &number),
-                PLAIN(STUN_TYPES_BAD_ARGUMENT));
-        attribute.value_at = SIZE_MAX;
-        ANSWERS(read_number(read[i].bits, value, &attribute, &number),
-                PLAIN(STUN_TYPES_BAD_ARGUMENT));
+        for (at = 0; at < COUNT(outside); at++) {
+            attribute.value_at = outside[at];
+            ANSWERS(read_number(read[i].bits, bytes, &attribute, &number),
+                    PLAIN(STUN_TYPES_BAD_ARGUMENT));
+        }
     }
 }
 
@@ -461,10 +466,18 @@ static const struct {
 static stun_types_answer refuse(bool is_long, slice request, uint32_t code, slice realm, slice nonce,
                                 const uint16_t *algorithms, size_t count, uint8_t *bytes, size_t size,
                                 size_t *written) {
+    stun_types_asked asked;
+    memset(&asked, 0, sizeof asked);
     if (!is_long)
         return stun_types_refuse_short_term(request.bytes, request.length, code, bytes, size, written);
-    return stun_types_refuse_long_term(request.bytes, request.length, code, realm.bytes, realm.length,
-                                       nonce.bytes, nonce.length, algorithms, count, bytes, size,
+    asked.realm = realm.bytes;
+    asked.realm_length = realm.length;
+    asked.nonce = nonce.bytes;
+    asked.nonce_length = nonce.length;
+    asked.algorithms = algorithms;
+    asked.algorithms_count = count;
+    return stun_types_refuse_long_term(request.bytes, request.length, code,
+                                       (const void *)given(&asked, sizeof asked).bytes, bytes, size,
                                        written);
 }
 
@@ -487,6 +500,30 @@ static void test_refusals(void) {
                 LENGTHS(refusals[i].answer, refusals[i].expected, refusals[i].actual));
         heap_allow(false);
         CHECK(is_untouched(bytes, 19) && is_untouched(written, sizeof *written));
+    }
+}
+
+/* A spare word that isn't 0. */
+static void test_spare_word(void) {
+    static const uint64_t words[] = {1, (uint64_t)1 << 63};
+    size_t i;
+    for (i = 0; i < COUNT(words); i++) {
+        slice request;
+        stun_types_asked asked;
+        size_t *written;
+        uint8_t *bytes;
+        row("what isn't refused", "a spare word of what is asked");
+        request = hex(REQUEST);
+        memset(&asked, 0, sizeof asked);
+        asked.reserved = words[i];
+        bytes = room(100);
+        written = NEW(size_t);
+        heap_allow(true);
+        ANSWERS(stun_types_refuse_long_term(request.bytes, request.length, 401, &asked, bytes, 100,
+                                            written),
+                PLAIN(STUN_TYPES_BAD_ARGUMENT));
+        heap_allow(false);
+        CHECK(is_untouched(bytes, 100) && is_untouched(written, sizeof *written));
     }
 }
 
@@ -753,6 +790,7 @@ void test_calls(void) {
     test_key_for();
     test_answer_challenge();
     test_refusals();
+    test_spare_word();
     test_refusal_rooms();
     test_finish_reply();
     test_nonces();

@@ -10,11 +10,16 @@
 static const stun_types_policy strict = {STUN_TYPES_INTEGRITY_ANY, 0, 0, 0};
 static const stun_types_schedule schedule = STUN_TYPES_SCHEDULE;
 static const stun_types_id id = {{0}};
-static const stun_types_address address = {{192, 0, 2, 1}, 32853, 4};
 
 #define NOTHING LENGTHS(STUN_TYPES_TRUNCATED, 20, 0)
+#define NO_VALUE PLAIN(STUN_TYPES_BAD_ARGUMENT)
+#define AN_ADDRESS {{192, 0, 2, 1}, 32853, 4}
+#define NO_ADDRESS {{0}, 0, 0}
+#define NOT_READY {NO_ADDRESS, NO_ADDRESS, NO_ADDRESS, NO_ADDRESS, 0, 0}
+static const stun_types_address address = AN_ADDRESS;
 
 static void test_read(void) {
+    static const stun_types_attribute none = {24, STUN_TYPES_ATTRIBUTE_UNKNOWN_ATTRIBUTES, 0};
     stun_types_attribute *attribute = NEW(stun_types_attribute);
     stun_types_cursor *cursor = NEW(stun_types_cursor);
     size_t *count = NEW(size_t), *other = NEW(size_t);
@@ -30,12 +35,11 @@ static void test_read(void) {
     CHECK(stun_types_attributes(NULL, 0, NULL, 0) == 0);
     CHECK(stun_types_attributes(bytes.bytes, bytes.length, NULL, 0) == 1);
     CHECK(!stun_types_find(NULL, 0, 1, attribute));
-    ANSWERS(stun_types_read_address(NULL, 0, attribute, NEW(stun_types_address)),
-            LENGTHS(STUN_TYPES_TRUNCATED, 4, 0));
-    ANSWERS(stun_types_read_xor_address(NULL, 0, attribute, NEW(stun_types_address)), NOTHING);
-    ANSWERS(stun_types_read_error(NULL, 0, attribute, code, count, other),
-            LENGTHS(STUN_TYPES_TRUNCATED, 4, 0));
-    ANSWERS(stun_types_read_types(NULL, 0, attribute, NULL, 0, count), OK_ANSWER);
+    ANSWERS(stun_types_read_address(NULL, 0, attribute, NEW(stun_types_address)), NO_VALUE);
+    ANSWERS(stun_types_read_xor_address(NULL, 0, attribute, NEW(stun_types_address)), NO_VALUE);
+    ANSWERS(stun_types_read_error(NULL, 0, attribute, code, count, other), NO_VALUE);
+    ANSWERS(stun_types_read_types(NULL, 0, attribute, NULL, 0, count), NO_VALUE);
+    ANSWERS(stun_types_read_types(bytes.bytes, bytes.length, &none, NULL, 0, count), OK_ANSWER);
     CHECK(*count == 0);
     CHECK(stun_types_unknown_types(NULL, 0, NULL, 0, NULL, 0) == 0);
     CHECK(stun_types_unknown_types(bytes.bytes, bytes.length, NULL, 0, NULL, 0) == 1);
@@ -47,14 +51,10 @@ static void test_read(void) {
 static void test_numbers_read(void) {
     stun_types_attribute *attribute = NEW(stun_types_attribute);
     memset(attribute, 0, sizeof *attribute);
-    ANSWERS(stun_types_read_u8(NULL, 0, attribute, NEW(uint8_t)),
-            LENGTHS(STUN_TYPES_TRUNCATED, 1, 0));
-    ANSWERS(stun_types_read_u16(NULL, 0, attribute, NEW(uint16_t)),
-            LENGTHS(STUN_TYPES_TRUNCATED, 2, 0));
-    ANSWERS(stun_types_read_u32(NULL, 0, attribute, NEW(uint32_t)),
-            LENGTHS(STUN_TYPES_TRUNCATED, 4, 0));
-    ANSWERS(stun_types_read_u64(NULL, 0, attribute, NEW(uint64_t)),
-            LENGTHS(STUN_TYPES_TRUNCATED, 8, 0));
+    ANSWERS(stun_types_read_u8(NULL, 0, attribute, NEW(uint8_t)), NO_VALUE);
+    ANSWERS(stun_types_read_u16(NULL, 0, attribute, NEW(uint16_t)), NO_VALUE);
+    ANSWERS(stun_types_read_u32(NULL, 0, attribute, NEW(uint32_t)), NO_VALUE);
+    ANSWERS(stun_types_read_u64(NULL, 0, attribute, NEW(uint64_t)), NO_VALUE);
     CHECK(stun_types_known_types(NULL, 0) == 11);
     CHECK(stun_types_text(STUN_TYPES_OK, NULL, 0) == sizeof "no error");
 }
@@ -150,6 +150,7 @@ static void test_servers_with_credentials(void) {
     static const stun_types_authentication accepted = {
         STUN_TYPES_ACCEPTED, (stun_types_code)0, STUN_TYPES_INTEGRITY_SHA1, STUN_TYPES_INTEGRITY_SHA1,
         (stun_types_password)0, 0};
+    static const stun_types_asked asked;
     stun_types_key *key = password_key(text("a secret of the server"));
     stun_types_nonce_state *state = NEW(stun_types_nonce_state);
     size_t *written = NEW(size_t);
@@ -158,10 +159,8 @@ static void test_servers_with_credentials(void) {
     ANSWERS(stun_types_refuse_short_term(NULL, 0, 401, NULL, 0, written), NOTHING);
     ANSWERS(stun_types_refuse_short_term(request.bytes, request.length, 401, NULL, 0, written),
             LENGTHS(STUN_TYPES_TOO_SMALL, 44, 0));
-    ANSWERS(stun_types_refuse_long_term(NULL, 0, 401, NULL, 0, NULL, 0, NULL, 0, NULL, 0, written),
-            NOTHING);
-    ANSWERS(stun_types_refuse_long_term(request.bytes, request.length, 401, NULL, 0, NULL, 0, NULL, 0,
-                                        NULL, 0, written),
+    ANSWERS(stun_types_refuse_long_term(NULL, 0, 401, &asked, NULL, 0, written), NOTHING);
+    ANSWERS(stun_types_refuse_long_term(request.bytes, request.length, 401, &asked, NULL, 0, written),
             LENGTHS(STUN_TYPES_TOO_SMALL, 52, 0));
     ANSWERS(stun_types_make_nonce(key, 0, 600, 7, &address, NULL, 0, written),
             LENGTHS(STUN_TYPES_TOO_SMALL, STUN_TYPES_NONCE_LENGTH, 0));
@@ -236,35 +235,31 @@ static void test_clients_and_streams(void) {
 
 static void test_turn_servers(void) {
     static const stun_types_turn none = STUN_TYPES_TURN_INIT;
-    stun_types_turn_settings *settings = NEW(stun_types_turn_settings);
+    static const stun_types_turn_settings settings;
+    static const stun_types_turn_datagram datagram = {NULL, 0, {AN_ADDRESS, AN_ADDRESS, 0}, NOT_READY, 0, 0};
+    stun_types_turn_datagram *full = NEW(stun_types_turn_datagram);
     stun_types_turn *server = NEW(stun_types_turn);
-    stun_types_five_tuple *from = NEW(stun_types_five_tuple);
-    stun_types_turn_ready *ready = NEW(stun_types_turn_ready);
     stun_types_turn_action *action = NEW(stun_types_turn_action);
     stun_types_turn_delivery *delivery = NEW(stun_types_turn_delivery);
     stun_types_key *key = password_key(text("a secret of the server"));
     const slice request = hex(REQUEST);
-    memset(settings, 0, sizeof *settings);
-    memset(ready, 0, sizeof *ready);
-    memset(from, 0, sizeof *from);
-    from->client = from->server = address;
-    settings->allocations = 2;
     *server = none;
     heap_allow(true);
-    ANSWERS(stun_types_turn_new(server, settings, NULL, 0, NULL, 0, key, NULL, 0, NULL, 0, NULL, 0),
-            OK_ANSWER);
-    ANSWERS(stun_types_turn_client(server, 0, from, NULL, 0, ready, false, no_key(), no_key(), NULL, 0,
-                                   action),
+    ANSWERS(stun_types_turn_new(server, &settings, key), OK_ANSWER);
+    ANSWERS(stun_types_turn_client(server, 0, &datagram, no_key(), no_key(), NULL, 0, action),
             OK_ANSWER);
     CHECK(action->kind == STUN_TYPES_TURN_NOTHING);
-    ANSWERS(stun_types_turn_client(server, 0, from, request.bytes, request.length, ready, false,
-                                   no_key(), no_key(), NULL, 0, action),
+    *full = datagram;
+    full->bytes = request.bytes;
+    full->length = request.length;
+    ANSWERS(stun_types_turn_client(server, 0, full, no_key(), no_key(), NULL, 0, action),
             LENGTHS(STUN_TYPES_TOO_SMALL, 48, 0));
     ANSWERS(stun_types_turn_peer(server, 0, &address, 0, 0, &id, NULL, 0, delivery),
             LENGTHS(STUN_TYPES_TOO_SMALL, STUN_TYPES_TURN_HEAD, 0));
     CHECK(stun_types_turn_poll(server, 0, NULL, 0) == 0);
     heap_allow(false);
     stun_types_turn_free(server);
+    stun_types_turns_free(NULL, 0);
     stun_types_key_free(key);
 }
 

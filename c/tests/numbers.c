@@ -23,26 +23,28 @@ void test_numbers(void) {
         row("stun_types_message_type", types[i].name);
         CHECK(stun_types_message_type(types[i].message_class, types[i].method) == types[i].type);
     }
-    row("stun_types_message_of", "each code has a text of its own");
+    row("stun_types_status_text", "each code has a text of its own");
     for (code = 0; code <= STUN_TYPES_HMAC_TOO_SHORT; code++) {
         uint32_t other;
-        CHECK(strcmp(stun_types_message_of(code), "unknown code") != 0);
+        CHECK(strcmp(stun_types_status_text(code), "unknown code") != 0);
         for (other = 0; other < code; other++)
-            CHECK(strcmp(stun_types_message_of(code), stun_types_message_of(other)) != 0);
+            CHECK(strcmp(stun_types_status_text(code), stun_types_status_text(other)) != 0);
     }
-    CHECK(strcmp(stun_types_message_of(STUN_TYPES_HMAC_TOO_SHORT + 1), "unknown code") == 0);
-    CHECK(strcmp(stun_types_message_of(UINT32_MAX), "unknown code") == 0);
+    CHECK(strcmp(stun_types_status_text(STUN_TYPES_HMAC_TOO_SHORT + 1), "unknown code") == 0);
+    CHECK(strcmp(stun_types_status_text(UINT32_MAX), "unknown code") == 0);
     for (code = 0; code <= STUN_TYPES_HMAC_TOO_SHORT + 1; code++) {
-        const char *wanted = stun_types_message_of(code);
-        size_t length = strlen(wanted) + 1;
+        const char *wanted = stun_types_status_text(code);
+        size_t length = strlen(wanted) + 1, size;
         char *text;
         row("stun_types_text", wanted);
         text = (char *)(void *)room(length + 3);
         CHECK(stun_types_text((stun_types_status)code, text, length + 3) == length);
         CHECK(memcmp(text, wanted, length) == 0 && is_untouched(text + length, 3));
-        text = (char *)(void *)room(length - 1);
-        CHECK(stun_types_text((stun_types_status)code, text, length - 1) == length);
-        CHECK(memcmp(text, wanted, length - 1) == 0);
+        for (size = 1; size < length; size++) {
+            text = (char *)(void *)room(size);
+            CHECK(stun_types_text((stun_types_status)code, text, size) == length);
+            CHECK(memcmp(text, wanted, size - 1) == 0 && text[size - 1] == 0);
+        }
         CHECK(stun_types_text((stun_types_status)code, NULL, 0) == length);
     }
     row("stun_types_version", "STUN_TYPES_VERSION");

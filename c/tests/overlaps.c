@@ -7,6 +7,7 @@
 #include "keychain.h"
 #include "samples.h"
 #include "tests.h"
+#include "turn_site.h"
 
 enum { ARGUMENTS = 9, APART = 512 };
 
@@ -102,8 +103,8 @@ CALL(refuse_short_term) {
     REPORT(stun_types_refuse_short_term(at[0], 28, STUN_TYPES_CODE_BAD_REQUEST, at[1], 100, at[2]));
 }
 CALL(refuse_long_term) {
-    REPORT(stun_types_refuse_long_term(at[0], 28, STUN_TYPES_CODE_UNAUTHORIZED, at[1], 5, at[2],
-                                       13, at[3], 1, at[4], 200, at[5]));
+    REPORT(stun_types_refuse_long_term(at[0], 28, STUN_TYPES_CODE_UNAUTHORIZED, at[1], at[5], 200,
+                                       at[6]));
 }
 CALL(security_features) { REPORT_BOOL(stun_types_security_features(at[0], 13, at[1])); }
 CALL(make_nonce) {
@@ -137,16 +138,50 @@ CALL(write_channel_data) {
 }
 
 CALL(turn_new) {
-    REPORT(stun_types_turn_new(at[0], at[1], at[2], 5, at[3], 4, at[4], at[5], 2, at[6], 1, at[7], 2));
+    REPORT(stun_types_turn_new(at[0], at[1], at[2]));
 }
 CALL(turn_client) {
-    REPORT(stun_types_turn_client(at[0], 0, at[1], at[2], 20, at[3], true, at[4], at[5], at[6], 60,
-                                  at[7]));
+    REPORT(stun_types_turn_client(at[0], 0, at[1], at[3], at[4], at[5], 60, at[6]));
 }
 CALL(turn_peer) {
     REPORT(stun_types_turn_peer(at[0], 0, at[1], 1, 3, at[2], at[3], STUN_TYPES_TURN_HEAD, at[4]));
 }
-CALL(turn_poll) { REPORT_COUNT(stun_types_turn_poll(at[0], 0, at[1], 2)); }
+
+/* Puts the slices into a struct that is passed. */
+static void asks(void *const *at) {
+    stun_types_asked *it = at[1];
+    it->realm = at[2];
+    it->realm_length = 5;
+    it->nonce = at[3];
+    it->nonce_length = 13;
+    it->algorithms = at[4];
+    it->algorithms_count = 1;
+}
+
+static void sets(void *const *at) {
+    stun_types_turn_settings *it = at[1];
+    it->realm = at[3];
+    it->realm_length = 5;
+    it->software = at[4];
+    it->software_length = 4;
+    it->denied = at[5];
+    it->denied_count = 2;
+    it->allowed = at[6];
+    it->allowed_count = 1;
+    it->listening = at[7];
+    it->listening_count = 2;
+}
+
+static void comes(void *const *at) {
+    stun_types_turn_datagram *it = at[1];
+    it->bytes = at[2];
+    it->length = 20;
+}
+
+static const struct {
+    uint64_t (*call)(void *const *at);
+    void (*put)(void *const *at);
+} structs[] = {{refuse_long_term, asks}, {turn_new, sets}, {turn_client, comes}};
 
 /* ---- the calls, and what they are given: answers that aren't REFUSED, if no arguments overlap */
 
@@ -231,8 +266,8 @@ static const guarded_call calls[] = {
       GIVEN(sizeof(stun_types_key), "")}},
     {"stun_types_refuse_short_term", refuse_short_term, {BYTES(28, USER), ROOM(100, ""), COUNTED}},
     {"stun_types_refuse_long_term", refuse_long_term,
-     {BYTES(28, USER), BYTES(5, ""), BYTES(13, "6F624D61744A6F733267414141"), GIVEN(2, "0100"),
-      ROOM(200, ""), COUNTED}},
+     {BYTES(28, USER), GIVEN(sizeof(stun_types_asked), ""), BYTES(5, ""),
+      BYTES(13, "6F624D61744A6F733267414141"), GIVEN(2, "0100"), ROOM(200, ""), COUNTED}},
     {"stun_types_security_features", security_features,
      {BYTES(13, "6F624D61744A6F733241414141"), LEFT(4, "")}},
     {"stun_types_make_nonce", make_nonce,
@@ -270,19 +305,18 @@ static const guarded_call calls[] = {
     {"stun_types_write_channel_data", write_channel_data,
      {BYTES(4, ""), ROOM(20, ""), COUNTED}},
     {"stun_types_turn_new", turn_new,
-     {LEFT(sizeof(stun_types_turn), ""), GIVEN(sizeof(stun_types_turn_settings), ""), BYTES(5, ""),
-      BYTES(4, ""), GIVEN(sizeof(stun_types_key), ""),
+     {LEFT(sizeof(stun_types_turn), ""), GIVEN(sizeof(stun_types_turn_settings), ""),
+      GIVEN(sizeof(stun_types_key), ""), BYTES(5, ""), BYTES(4, ""),
       GIVEN(2 * sizeof(stun_types_prefix), "00*18 0400 0000 00*18 0600"),
       GIVEN(sizeof(stun_types_prefix), "00*18 0400"),
       GIVEN(2 * sizeof(stun_types_address), "00*18 0400 00*18 0600")}},
     {"stun_types_turn_client", turn_client,
-     {TURN_SERVER, GIVEN(sizeof(stun_types_five_tuple), "00*18 0400 00*18 0400"), BYTES(20, HEADER),
-      GIVEN(sizeof(stun_types_turn_ready), ""), GIVEN(sizeof(stun_types_key), ""),
-      GIVEN(sizeof(stun_types_key), ""), ROOM(60, ""), ZEROED(sizeof(stun_types_turn_action))}},
+     {TURN_SERVER, GIVEN(sizeof(stun_types_turn_datagram), "00*34 0400 00*18 0400"),
+      BYTES(20, HEADER), GIVEN(sizeof(stun_types_key), ""), GIVEN(sizeof(stun_types_key), ""),
+      ROOM(60, ""), ZEROED(sizeof(stun_types_turn_action))}},
     {"stun_types_turn_peer", turn_peer,
      {TURN_SERVER, ADDRESS, BYTES(sizeof(stun_types_id), ""), ROOM(STUN_TYPES_TURN_HEAD, ""),
       ZEROED(sizeof(stun_types_turn_delivery))}},
-    {"stun_types_turn_poll", turn_poll, {TURN_SERVER, LEFT(2 * sizeof(uint64_t), "")}},
 };
 
 /* ---- the arguments, in one block of memory */
@@ -313,6 +347,8 @@ static void prepare(const guarded_call *it, void *const *at) {
     for (i = 0; i < count; i++) memset(at[i], 0, it->arguments[i].size);
     for (i = 0; i < count; i++)
         if (begins[i].length != 0) memcpy(at[i], begins[i].bytes, begins[i].length);
+    for (i = 0; i < COUNT(structs); i++)
+        if (structs[i].call == it->call) structs[i].put(at);
 }
 
 /* What a call returns that overlaps nothing; a key that it made is freed. */
@@ -366,11 +402,31 @@ static void make_server(stun_types_turn *server) {
     memset(&settings, 0, sizeof settings);
     *server = none;
     heap_allow(true);
-    ANSWERS(stun_types_turn_new(server, &settings, NULL, 0, NULL, 0, secret, NULL, 0, NULL, 0, NULL,
-                                0),
-            OK_ANSWER);
+    ANSWERS(stun_types_turn_new(server, &settings, secret), OK_ANSWER);
     heap_allow(false);
     stun_types_key_free(secret);
+}
+
+/* A poll counts what it writes, and so it is 0 if it is refused: the allocation that has ended is
+   reported by the next one. */
+static void test_poll(void) {
+    static uint64_t numbers[6];
+    stun_types_turn *const at = (void *)(numbers + 2);
+    stun_types_turn before;
+    size_t first;
+    site_begin("stun_types_turn_poll");
+    CHECK(site_allocate(0, 1) == 0);
+    before = *site.server;
+    for (first = 1; first <= 3; first++) {
+        memset(numbers, FILL, sizeof numbers);
+        *at = before;
+        CHECK(stun_types_turn_poll(at, 600 * SECOND, numbers + first, 2) == 0);
+        CHECK(memcmp(at, &before, sizeof before) == 0 && is_untouched(numbers, 16)
+              && is_untouched(numbers + 4, 16));
+    }
+    CHECK(stun_types_turn_poll(at, 600 * SECOND, numbers, 2) == 1);
+    CHECK(memcmp(at, &before, sizeof before) == 0 && numbers[0] == site.action->relay);
+    site_end();
 }
 
 void test_overlaps(void) {
@@ -396,4 +452,5 @@ void test_overlaps(void) {
                     check_two(it, one, other, apart);
     }
     stun_types_turn_free(&server);
+    test_poll();
 }

@@ -141,6 +141,19 @@ static stun_types_answer read_types(slice bytes, const stun_types_attribute *att
     return answer;
 }
 
+#define READ_NUMBER(bits)                                                                       \
+    static stun_types_answer read_u##bits(slice bytes, const stun_types_attribute *attribute) { \
+        uint##bits##_t *number = NEW(uint##bits##_t);                                           \
+        stun_types_answer answer =                                                              \
+            stun_types_read_u##bits(bytes.bytes, bytes.length, attribute, number);              \
+        if (answer.code != STUN_TYPES_OK) CHECK(is_untouched(number, sizeof *number));          \
+        return answer;                                                                          \
+    }
+READ_NUMBER(8)
+READ_NUMBER(16)
+READ_NUMBER(32)
+READ_NUMBER(64)
+
 #define WITH_XOR HEADER_5769("000C") "00200008 0001A147E112A643"
 #define WITH_PLAIN HEADER("000C") "00010008 00018055C0000201"
 
@@ -163,7 +176,7 @@ static const struct {
      STUN_TYPES_BAD_ARGUMENT},
     {"an XORed address, no bytes at all", read_xor_address, "", {24, 0x20, 8},
      STUN_TYPES_BAD_ARGUMENT},
-    {"an XORed address, no header", read_xor_address, "0001A147E112A643 00*4", {4, 0x20, 8},
+    {"an XORed address, no header", read_xor_address, "C0 00*23 0001A147E112A643", {24, 0x20, 8},
      STUN_TYPES_NOT_STUN},
     {"an XORed address, of a type that isn't XORed", read_xor_address,
      HEADER_5769("000C") "00010008 0001A147E112A643", {24, 0x0001, 8}, STUN_TYPES_BAD_ARGUMENT},
@@ -183,18 +196,29 @@ static const struct {
      {24, 0x0016, 8}, STUN_TYPES_BAD_ARGUMENT},
     {"an address, of a type that isn't known", read_address, HEADER("000C") "00020008 00018055C0000201",
      {24, 0x0002, 8}, STUN_TYPES_OK},
-    {"an address, no header", read_address, "00018055C0000201", {0, 0x8023, 8}, STUN_TYPES_OK},
+    {"an address, no header", read_address, "C0 00*23 00018055C0000201", {24, 0x8023, 8},
+     STUN_TYPES_OK},
+    {"an address, it begins in the header of its attribute", read_address,
+     "C0 00*22 00018055C0000201", {23, 0x8023, 8}, STUN_TYPES_BAD_ARGUMENT},
     {"an address, it ends one byte after the bytes", read_address, WITH_PLAIN, {24, 1, 9},
      STUN_TYPES_BAD_ARGUMENT},
     {"an address, it wraps", read_address, WITH_PLAIN, {SIZE_MAX - 7, 1, 8},
      STUN_TYPES_BAD_ARGUMENT},
     {"an address, no bytes at all", read_address, "", {1, 1, 0}, STUN_TYPES_BAD_ARGUMENT},
-    {"an error, it ends after the bytes", read_error, "00000414", {0, 9, 8},
+    {"an error, it ends after the bytes", read_error, "00*24 00000414", {24, 9, 8},
      STUN_TYPES_BAD_ARGUMENT},
-    {"an error, it begins after the bytes", read_error, "00000414", {SIZE_MAX, 9, 1},
+    {"an error, it begins after the bytes", read_error, "00*24 00000414", {SIZE_MAX, 9, 1},
      STUN_TYPES_BAD_ARGUMENT},
-    {"types, they end after the bytes", read_types, "7FFF", {0, 0x0A, 4},
+    {"types, they end after the bytes", read_types, "00*24 7FFF", {24, 0x0A, 4},
      STUN_TYPES_BAD_ARGUMENT},
+    {"of zeros, an XORed address", read_xor_address, WITH_XOR, {0, 0, 0}, STUN_TYPES_BAD_ARGUMENT},
+    {"of zeros, an address", read_address, WITH_PLAIN, {0, 0, 0}, STUN_TYPES_BAD_ARGUMENT},
+    {"of zeros, an error", read_error, WITH_PLAIN, {0, 0, 0}, STUN_TYPES_BAD_ARGUMENT},
+    {"of zeros, types", read_types, WITH_PLAIN, {0, 0, 0}, STUN_TYPES_BAD_ARGUMENT},
+    {"of zeros, 8 bits", read_u8, WITH_PLAIN, {0, 0, 0}, STUN_TYPES_BAD_ARGUMENT},
+    {"of zeros, 16 bits", read_u16, WITH_PLAIN, {0, 0, 0}, STUN_TYPES_BAD_ARGUMENT},
+    {"of zeros, 32 bits", read_u32, WITH_PLAIN, {0, 0, 0}, STUN_TYPES_BAD_ARGUMENT},
+    {"of zeros, 64 bits", read_u64, WITH_PLAIN, {0, 0, 0}, STUN_TYPES_BAD_ARGUMENT},
 };
 
 static void test_values(void) {

@@ -88,6 +88,16 @@ static void denied_bits(turn_making *it) {
     denies(it, 4, 30);
     it->denied[0].address.octets[3] = 6;
 }
+/* (of an IPv4 address only the first four octets are) */
+static void denied_more_octets(turn_making *it) {
+    denies(it, 4, 32);
+    it->denied[0].address.octets[4] = 1;
+}
+static void allowed_more_octets(turn_making *it) {
+    allows(it, 4, 0);
+    it->allowed[1].address.octets[15] = 0x80;
+}
+static void listening_more_octets(turn_making *it) { it->listening[0].octets[4] = 1; }
 static void allowed_bits(turn_making *it) {
     allows(it, 6, 127);
     it->allowed[1].address.octets[15] = 1;
@@ -160,6 +170,10 @@ static const struct {
     {"a software of 764 bytes", software_764, STUN_TYPES_TOO_LARGE, LONGEST_TEXT, 764},
     {"a prefix with other bits", denied_bits, STUN_TYPES_BAD_ARGUMENT, 0, 0},
     {"an allowed prefix with other bits", allowed_bits, STUN_TYPES_BAD_ARGUMENT, 0, 0},
+    {"an IPv4 prefix with a fifth octet", denied_more_octets, STUN_TYPES_BAD_ARGUMENT, 0, 0},
+    {"an allowed IPv4 prefix with a sixteenth octet", allowed_more_octets, STUN_TYPES_BAD_ARGUMENT, 0,
+     0},
+    {"an IPv4 address with a fifth octet", listening_more_octets, STUN_TYPES_OK, 0, 0},
     {"a spare word, and no secret", settings_and_no_secret, STUN_TYPES_BAD_ARGUMENT, 0, 0},
     {"a long realm, and a software that isn't UTF-8", both_texts, STUN_TYPES_TOO_LARGE,
      LONGEST_TEXT, 764},
@@ -233,6 +247,29 @@ static void test_lives(void) {
     held = heap_held();
     stun_types_turn_free(site.server);
     CHECK(memcmp(site.server, &site_none, sizeof site_none) == 0 && heap_held() == held);
+    stun_types_turn_free(NULL);
+    stun_types_turns_free(NULL, 0);
+    CHECK(heap_held() == held);
+    site_end();
+}
+
+/* Servers one after the other in memory; what is after them stays. */
+static void test_ends_of_many(void) {
+    stun_types_turn *servers;
+    turn_making it;
+    long held;
+    site_begin("two are freed at once");
+    servers = (stun_types_turn *)(void *)room(3 * sizeof *servers);
+    servers[0] = servers[1] = servers[2] = site_none;
+    it = site_making();
+    held = heap_held();
+    ANSWERS(site_make(&servers[0], &it), OK_ANSWER);
+    ANSWERS(site_make(&servers[2], &it), OK_ANSWER);
+    stun_types_turns_free(servers, 2);
+    CHECK(memcmp(&servers[0], &site_none, sizeof site_none) == 0
+          && memcmp(&servers[1], &site_none, sizeof site_none) == 0 && servers[2].at != NULL);
+    stun_types_turns_free(servers + 2, 1);
+    CHECK(heap_held() == held);
     site_end();
 }
 
@@ -248,9 +285,15 @@ static void test_copied(void) {
     realm = copy(turn_realm, strlen(turn_realm));
     software = copy("a server", 8);
     ANSWERS(stun_types_key_copy(&secret, &site.nonces.secret), OK_ANSWER);
-    ANSWERS(stun_types_turn_new(site.server, &settings, realm, strlen(turn_realm), software, 8,
-                                &secret, &denied, 1, NULL, 0, &second, 1),
-            OK_ANSWER);
+    settings.realm = realm;
+    settings.realm_length = strlen(turn_realm);
+    settings.software = software;
+    settings.software_length = 8;
+    settings.denied = &denied;
+    settings.denied_count = 1;
+    settings.listening = &second;
+    settings.listening_count = 1;
+    ANSWERS(stun_types_turn_new(site.server, &settings, &secret), OK_ANSWER);
     stun_types_key_free(&secret);
     memset(realm, FILL, strlen(turn_realm));
     memset(software, FILL, 8);
@@ -400,6 +443,7 @@ void test_turn(void) {
     test_making();
     test_secrets();
     test_lives();
+    test_ends_of_many();
     test_copied();
     test_overwritten();
     test_lifetimes();

@@ -88,25 +88,59 @@ static void test_peer_arguments(void) {
     }
 }
 
+/* ---- what comes with a datagram */
+
+/* A spare word that isn't 0 is refused, and nothing is done. Any other number than 0 says that the keys
+   were looked up: here there are none. */
+static void test_words(void) {
+    static const uint64_t words[] = {1, (uint64_t)1 << 63};
+    stun_types_turn_datagram datagram;
+    turn_nonce nonce;
+    size_t i;
+    site_begin("a spare word of a datagram, and looked_up");
+    nonce = turn_nonce_at(&site.nonces, 0, &site_client);
+    site_write_allocate(1);
+    turn_sign(&site.message, &site.alice, STUN_TYPES_PASSWORD_SHA256, &nonce);
+    datagram = site_given(site_datagram());
+    for (i = 0; i < COUNT(words); i++) {
+        datagram.reserved = words[i];
+        memset(site.place, FILL, SITE_ROOM);
+        ANSWERS(stun_types_turn_client(site.server, 0, &datagram, no_key(), no_key(), site.place,
+                                       SITE_ROOM, site.action),
+                PLAIN(STUN_TYPES_BAD_ARGUMENT));
+        CHECK(is_zero(site.action, sizeof *site.action) && is_untouched(site.place, SITE_ROOM));
+    }
+    datagram.reserved = 0;
+    for (i = 1; i < 0x10000; i *= 2) {
+        datagram.looked_up = (uint16_t)i;
+        ANSWERS(stun_types_turn_client(site.server, 0, &datagram, no_key(), no_key(), site.place,
+                                       SITE_ROOM, site.action),
+                OK_ANSWER);
+        CHECK(site.action->kind == STUN_TYPES_TURN_RESPONSE && site.action->code == 401);
+    }
+    site_end();
+}
+
 /* ---- keys that are needed */
 
 static void test_needs_key(void) {
     turn_call call;
     slice bytes;
     turn_nonce nonce;
+    stun_types_turn_datagram datagram;
     int i;
     site_begin("a key is needed, and nothing changes");
     nonce = turn_nonce_at(&site.nonces, 0, &site_client);
     site_write_allocate(1);
     turn_sign(&site.message, &site.alice, STUN_TYPES_PASSWORD_SHA256, &nonce);
     bytes = site_datagram();
+    datagram = site_given(bytes);
     for (i = 0; i < 2; i++) {
         memset(site.place, FILL, SITE_ROOM);
         /* (keys that weren't looked up don't count) */
         const stun_types_key *md5 = i == 0 ? no_key() : &site.alice.md5;
         const stun_types_key *sha256 = i == 0 ? no_key() : &site.alice.sha256;
-        ANSWERS(stun_types_turn_client(site.server, 700 * SECOND, site.from, bytes.bytes,
-                                       bytes.length, site.ready, false, md5, sha256, site.place,
+        ANSWERS(stun_types_turn_client(site.server, 700 * SECOND, &datagram, md5, sha256, site.place,
                                        SITE_ROOM, site.action),
                 OK_ANSWER);
         CHECK(site.action->kind == STUN_TYPES_TURN_NEEDS_KEY
@@ -237,6 +271,8 @@ static void test_families(void) {
     site_end();
 }
 
+/* Responses that are signed have the SOFTWARE that the server was given; a 420 and what isn't signed
+   have none. */
 static void test_software(void) {
     turn_making it;
     slice value = {NULL, 0}, all;
@@ -254,6 +290,13 @@ static void test_software(void) {
     CHECK(site.action->kind == STUN_TYPES_TURN_RESPONSE && site.action->code == 401
           && site.action->took == 0);
     CHECK(!turn_find(all.bytes, all.length, STUN_TYPES_ATTRIBUTE_SOFTWARE, &value));
+    turn_begin(&site.message, STUN_TYPES_CLASS_REQUEST, STUN_TYPES_METHOD_REFRESH, 3);
+    turn_add(&site.message, 0x7FFF, "", 0);
+    CHECK(site_ask(0) == 420);
+    all = site_response();
+    CHECK(!turn_find(all.bytes, all.length, STUN_TYPES_ATTRIBUTE_SOFTWARE, &value));
+    CHECK(turn_find(all.bytes, all.length, STUN_TYPES_ATTRIBUTE_UNKNOWN_ATTRIBUTES, &value));
+    CHECK_BYTES(value.bytes, value.length, hex("7FFF"));
     site_end();
 }
 
@@ -674,6 +717,7 @@ static void test_no_memory(void) {
 void test_turn_answers(void) {
     test_arguments();
     test_peer_arguments();
+    test_words();
     test_needs_key();
     test_one_key();
     test_other_key();

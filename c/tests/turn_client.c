@@ -179,12 +179,18 @@ bool turn_is_same_address(const stun_types_address *one, const stun_types_addres
 static stun_types_answer take_once(const turn_call *call, uint64_t now, slice datagram,
                                    bool is_looked_up, const turn_user *user) {
     static const stun_types_key none = STUN_TYPES_KEY_INIT;
+    stun_types_turn_datagram it;
     stun_types_answer answer;
     bool is_known = is_looked_up && user != NULL;
     memset(call->room, FILL, call->size);
     memset(call->action, FILL, sizeof *call->action);
-    answer = stun_types_turn_client(call->server, now, call->from, datagram.bytes, datagram.length,
-                                    call->ready, is_looked_up, is_known ? &user->md5 : &none,
+    memset(&it, 0, sizeof it);
+    it.bytes = datagram.bytes;
+    it.length = datagram.length;
+    it.from = *call->from;
+    it.ready = *call->ready;
+    it.looked_up = is_looked_up;
+    answer = stun_types_turn_client(call->server, now, &it, is_known ? &user->md5 : &none,
                                     is_known ? &user->sha256 : &none, call->room, call->size,
                                     call->action);
     if (answer.code == STUN_TYPES_OK && call->action->kind == STUN_TYPES_TURN_RESPONSE)

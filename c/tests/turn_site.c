@@ -20,6 +20,16 @@ const stun_types_turn_settings site_settings = {600,
                                                     | STUN_TYPES_FEATURE_USERNAME_ANONYMITY,
                                                 0,
                                                 0,
+                                                NULL,
+                                                0,
+                                                NULL,
+                                                0,
+                                                NULL,
+                                                0,
+                                                NULL,
+                                                0,
+                                                NULL,
+                                                0,
                                                 0};
 
 turn_site site;
@@ -36,16 +46,24 @@ turn_making site_making(void) {
     return it;
 }
 
+/* A copy of structs, to be read. */
+static const void *list(const void *all, size_t count, size_t size) {
+    return given(all, count * size).bytes;
+}
+
 stun_types_answer site_make(stun_types_turn *to, const turn_making *it) {
-    slice settings = given(&it->settings, sizeof it->settings);
-    slice denied = given(it->denied, it->denied_count * sizeof *it->denied);
-    slice allowed = given(it->allowed, it->allowed_count * sizeof *it->allowed);
-    slice listening = given(it->listening, it->listening_count * sizeof *it->listening);
-    return stun_types_turn_new(to, (const void *)settings.bytes, it->realm.bytes, it->realm.length,
-                               it->software.bytes, it->software.length, it->secret,
-                               (const void *)denied.bytes, it->denied_count,
-                               (const void *)allowed.bytes, it->allowed_count,
-                               (const void *)listening.bytes, it->listening_count);
+    stun_types_turn_settings settings = it->settings;
+    settings.realm = it->realm.bytes;
+    settings.realm_length = it->realm.length;
+    settings.software = it->software.bytes;
+    settings.software_length = it->software.length;
+    settings.denied = list(it->denied, it->denied_count, sizeof *it->denied);
+    settings.denied_count = it->denied_count;
+    settings.allowed = list(it->allowed, it->allowed_count, sizeof *it->allowed);
+    settings.allowed_count = it->allowed_count;
+    settings.listening = list(it->listening, it->listening_count, sizeof *it->listening);
+    settings.listening_count = it->listening_count;
+    return stun_types_turn_new(to, list(&settings, 1, sizeof settings), it->secret);
 }
 
 void site_begin_alone(const char *name) {
@@ -93,6 +111,16 @@ void site_end(void) {
 /* ---- datagrams */
 
 slice site_datagram(void) { return given(site.message.bytes, site.message.length); }
+
+stun_types_turn_datagram site_given(slice bytes) {
+    stun_types_turn_datagram it;
+    memset(&it, 0, sizeof it);
+    it.bytes = bytes.bytes;
+    it.length = bytes.length;
+    it.from = *site.from;
+    it.ready = *site.ready;
+    return it;
+}
 
 stun_types_answer site_take_in(stun_types_turn *to, uint64_t now, slice bytes, size_t size) {
     turn_call call;

@@ -49,6 +49,9 @@ void site_end(void);
 /* The message, to be read. */
 slice site_datagram(void);
 
+/* These bytes as the client's datagram, before its keys are looked up. */
+stun_types_turn_datagram site_given(slice bytes);
+
 /* Takes a datagram into a room of this size, or of SITE_ROOM, with alice's keys if they are needed. */
 stun_types_answer site_take_in(stun_types_turn *to, uint64_t now, slice bytes, size_t size);
 void site_take(uint64_t now, slice bytes);

@@ -86,14 +86,20 @@ static void sign(agent *self) {
 }
 
 static void take(agent *self) {
+    stun_types_turn_datagram datagram;
     stun_types_turn_action action;
     stun_types_answer answer;
     uint8_t room[ROOM];
     step *done = &self->done.steps[self->next++];
+    memset(&datagram, 0, sizeof datagram);
+    datagram.bytes = self->message;
+    datagram.length = self->length;
+    datagram.from = self->from;
+    datagram.ready = self->ready;
+    datagram.looked_up = 1;
     lock(self);
-    answer =
-        stun_types_turn_client(self->server, 7000000000, &self->from, self->message, self->length,
-                               &self->ready, true, &md5_key, &sha256_key, room, ROOM, &action);
+    answer = stun_types_turn_client(self->server, 7000000000, &datagram, &md5_key, &sha256_key, room,
+                                    ROOM, &action);
     unlock(self);
     done->answer = answer.code;
     done->kind = action.kind;
@@ -207,9 +213,13 @@ static void make_server(stun_types_turn *server) {
     settings.window = 600;
     settings.allocations = 2 * THREADS;
     settings.of_user = THREADS;
-    CHECK(!stun_types_turn_new(server, &settings, "realm", 5, "a server", 8, &secret, NULL, 0, NULL,
-                               0, &own, 1)
-               .code);
+    settings.realm = "realm";
+    settings.realm_length = 5;
+    settings.software = "a server";
+    settings.software_length = 8;
+    settings.listening = &own;
+    settings.listening_count = 1;
+    CHECK(!stun_types_turn_new(server, &settings, &secret).code);
 }
 
 static void begin_agent(agent *self, stun_types_turn *server, pthread_mutex_t *lock,

@@ -30,6 +30,7 @@ USERNAME, INTEGRITY, ERROR_CODE, REALM, NONCE = 0x0006, 0x0008, 0x0009, 0x0014, 
 CHANNEL, LIFETIME, PEER, CONTENT, RELAYED = 0x000C, 0x000D, 0x0012, 0x0013, 0x0016
 FAMILY, EVEN_PORT, TRANSPORT, INTEGRITY_SHA256 = 0x0017, 0x0018, 0x0019, 0x001C
 PASSWORD_ALGORITHM, USERHASH, PASSWORD_ALGORITHMS = 0x001D, 0x001E, 0x8002
+UNKNOWN_ATTRIBUTES, SOFTWARE = 0x000A, 0x8022
 UDP = (TRANSPORT, b"\x11\0\0\0")
 ALLOWING = ["-o", "allow=127.0.0.0/8", "-o", "allow=::1"]
 OTHER = {"127.0.0.1": "127.0.0.9", "::1": "::1"}  # where peers are
@@ -331,6 +332,24 @@ def relay_one(server, address, stream):
         check(client.refresh(0) == 0, "it doesn't end")
         client.send_on(0x4001, b"late")
         check(client.refresh(wanted=437) is None and peer.hears(0) is None, "it hasn't ended")
+
+
+def software(programs):
+    """Replies to Binding requests, and to users but a 420, have a SOFTWARE, a 401, 420 and 438 have none;
+    and no reply has one if it is switched off."""
+    for options, name in [((), b"stun-types"), (("-o", "software=0"), None)]:
+        with turn_server(programs, *options) as server, Client(server) as client, Client(server) as other:
+            replies = [(0, client.ask_with(REQUEST + secrets.token_bytes(12)), name),
+                       (401, client.ask_with(client.request(ALLOCATE, UDP, sign=False)), None),
+                       (0, client.ask(ALLOCATE, UDP), name), (437, client.ask(ALLOCATE, UDP), name)]
+            unknown = client.ask(REFRESH, (0x7FFF, b""))
+            check(unknown.values.get(UNKNOWN_ATTRIBUTES) == b"\x7f\xff", "a 420 lists other types")
+            other.challenge = {**client.challenge, NONCE: client.challenge[NONCE][:-1] + b"*"}
+            replies += [(420, unknown, None), (438, other.ask(ALLOCATE, UDP), None)]
+            for code, answer, wanted in replies:
+                check(answer.code == code, f"{answer.code}, not {code}")
+                check(answer.values.get(SOFTWARE) == wanted, f"a {code} has another SOFTWARE, {options}")
+            ended(server)
 
 
 def bursts(programs):
@@ -846,21 +865,19 @@ def can_connect(port):
     return False
 
 
-def coturn_client(programs):
-    """coturn's client, with Send indications and with channels, over UDP and TCP: no message is lost."""
+def coturn_clients(server_port, kinds):
+    """coturn's client by each of these kinds of words at once, and its peer: no message is lost."""
     if not shutil.which("turnutils_uclient") or not shutil.which("turnutils_peer"):
         raise Skipped("coturn's turnutils_uclient and turnutils_peer aren't on this machine")
     port = free_port(["127.0.0.1"])
-    options = ["-t", "-j", "2", "-o", "old-channels=1", "-o", "user-allocations=1000"]
-    with turn_server(programs, *options) as server, contextlib.ExitStack() as all_of:
+    with contextlib.ExitStack() as all_of:
         def start(*words, **how):
             started = all_of.enter_context(subprocess.Popen([*words, "127.0.0.1"], text=True, **how))
             all_of.callback(started.kill)
             return started
         start("turnutils_peer", "-p", port, "-L", stdout=subprocess.DEVNULL, stderr=subprocess.DEVNULL)
         words = ["turnutils_uclient", "-c", "-u", "user", "-w", "pass", "-e", "127.0.0.1", "-r", port,
-                 "-p", server.port, "-m", "10", "-n", "200"]
-        kinds = (["-s"], [], ["-s", "-t"], ["-t"])
+                 "-p", str(server_port), "-m", "10", "-n", "200"]
         ran = [start(*words, *kind, stdout=subprocess.PIPE, stderr=subprocess.STDOUT) for kind in kinds]
         for kind, one in zip(kinds, ran):
             out, _ = one.communicate(timeout=5 * PATIENCE)
@@ -868,4 +885,11 @@ def coturn_client(programs):
             sent = re.findall(r"tot_send_msgs=(\d+), tot_recv_msgs=(\d+)\n", out)
             right = one.returncode == 0 and lost == ["0"] and sent[-1] == ("2000", "2000")
             check(right, f"{kind}: status {one.returncode}: {out[-500:]}")
+
+
+def coturn_client(programs):
+    """coturn's client, with Send indications and with channels, over UDP and TCP: no message is lost."""
+    options = ["-t", "-j", "2", "-o", "old-channels=1", "-o", "user-allocations=1000"]
+    with turn_server(programs, *options) as server:
+        coturn_clients(server.port, (["-s"], [], ["-s", "-t"], ["-t"]))
         ended(server)

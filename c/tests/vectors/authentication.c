@@ -96,24 +96,10 @@ typedef struct {
     stun_types_key first, sha256;
 } user_keys;
 
-/* Answers with a reply that is signed, or that the key doesn't sign it: then nothing is written. */
-static void answer_signed(draft *to, const stun_types_authentication *decision,
-                          const user_keys *keys) {
-    size_t before = to->written;
-    stun_types_answer answer = stun_types_finish_reply(to->room, to->size, &to->written, decision,
-                                                       &keys->first, &keys->sha256, true);
-    if (answer.code == STUN_TYPES_BAD_ARGUMENT) {
-        CHECK(to->written == before && is_untouched(to->room + before, to->size - before));
-        answer_text("cannot-sign");
-        return;
-    }
-    ANSWERS(answer, OK_ANSWER);
-    answer_draft(to);
-}
-
-/* The reply to a request that is accepted: an address, or the error 420. */
-static void answer_accepted(slice request, const stun_types_authentication *decision,
-                            const user_keys *keys) {
+/* Writes the reply to a request that is accepted: an address, or the error 420. If the key doesn't sign it,
+   it is answered that it doesn't, and nothing more is written: then false is returned. */
+static bool write_accepted(draft *to, slice request, const stun_types_authentication *decision,
+                           const user_keys *keys) {
     static const uint16_t known[] = {
         STUN_TYPES_ATTRIBUTE_USERNAME, STUN_TYPES_ATTRIBUTE_USERHASH, STUN_TYPES_ATTRIBUTE_REALM, STUN_TYPES_ATTRIBUTE_NONCE,
         STUN_TYPES_ATTRIBUTE_PASSWORD_ALGORITHM, STUN_TYPES_ATTRIBUTE_MESSAGE_INTEGRITY,
@@ -121,17 +107,40 @@ static void answer_accepted(slice request, const stun_types_authentication *deci
     };
     static const stun_types_address source = {{192, 0, 2, 1}, 32853, 4};
     uint16_t unknown[100];
-    draft to;
-    size_t count = stun_types_unknown_types(request.bytes, request.length, known, COUNT(known),
-                                            unknown, COUNT(unknown));
-    ANSWERS(draft_reply(&to, ROOM, request, count == 0 ? STUN_TYPES_CLASS_SUCCESS : STUN_TYPES_CLASS_ERROR),
+    size_t before, count = stun_types_unknown_types(request.bytes, request.length, known, COUNT(known),
+                                                    unknown, COUNT(unknown));
+    stun_types_answer answer;
+    ANSWERS(draft_reply(to, ROOM, request, count == 0 ? STUN_TYPES_CLASS_SUCCESS : STUN_TYPES_CLASS_ERROR),
             OK_ANSWER);
     if (count == 0)
-        ANSWERS(stun_types_add_xor_address(to.room, to.size, &to.written,
+        ANSWERS(stun_types_add_xor_address(to->room, to->size, &to->written,
                                            STUN_TYPES_ATTRIBUTE_XOR_MAPPED_ADDRESS, &source),
                 OK_ANSWER);
-    else ANSWERS(draft_unknown(&to, unknown, count), OK_ANSWER);
-    answer_signed(&to, decision, keys);
+    else ANSWERS(draft_unknown(to, unknown, count), OK_ANSWER);
+    before = to->written;
+    answer = stun_types_finish_reply(to->room, to->size, &to->written, decision, &keys->first,
+                                     &keys->sha256, true);
+    if (answer.code == STUN_TYPES_BAD_ARGUMENT) {
+        CHECK(to->written == before && is_untouched(to->room + before, to->size - before));
+        answer_text("cannot-sign");
+        return false;
+    }
+    ANSWERS(answer, OK_ANSWER);
+    return true;
+}
+
+/* What a 401 asks for. */
+static const stun_types_asked *asked_for(slice in_realm, slice nonce, const uint16_t *algorithms,
+                                         size_t count) {
+    stun_types_asked it;
+    memset(&it, 0, sizeof it);
+    it.realm = in_realm.bytes;
+    it.realm_length = in_realm.length;
+    it.nonce = nonce.bytes;
+    it.nonce_length = nonce.length;
+    it.algorithms = algorithms;
+    it.algorithms_count = count;
+    return (const void *)given(&it, sizeof it).bytes;
 }
 
 /* Writes the reply to a request that is refused, in a room of this size. That of long-term
@@ -144,10 +153,10 @@ static stun_types_answer refuse(draft *to, size_t size, slice request, uint32_t 
     if (fresh == NULL)
         return stun_types_refuse_short_term(request.bytes, request.length, code, to->room, size,
                                             &to->written);
-    return stun_types_refuse_long_term(request.bytes, request.length, code, realm, strlen(realm),
-                                       fresh->bytes, fresh->length, offered,
-                                       promises(*fresh) ? COUNT(offered) : 0, to->room, size,
-                                       &to->written);
+    return stun_types_refuse_long_term(request.bytes, request.length, code,
+                                       asked_for(text(realm), *fresh, offered,
+                                                 promises(*fresh) ? COUNT(offered) : 0),
+                                       to->room, size, &to->written);
 }
 
 /* Answers with that reply, and a FINGERPRINT. A room that is an octet smaller stays as it is. */
@@ -166,9 +175,15 @@ static void answer_refused(slice request, uint32_t code, const slice *fresh) {
     answer_draft(&to);
 }
 
-/* Answers with what becomes of a message. The keys sign the reply to an accepted request. */
+/* Answers what a message gets, or is: by what is decided about it, and the keys of its user, which sign the
+   reply to an accepted request. fresh is the nonce of long-term credentials. */
+typedef void answering(slice message, const stun_types_authentication *decision, const user_keys *keys,
+                       const slice *fresh);
+
+/* What becomes of the message. */
 static void answer_decision(slice message, const stun_types_authentication *decision,
                             const user_keys *keys, const slice *fresh) {
+    draft to;
     if (decision->kind == STUN_TYPES_DISCARDED) answer_text("discarded");
     else if (decision->kind == STUN_TYPES_NOT_CHECKED) answer_text("not-a-request");
     else if (decision->kind == STUN_TYPES_REFUSED) {
@@ -180,8 +195,23 @@ static void answer_decision(slice message, const stun_types_authentication *deci
         answer_algorithm(decision->algorithm);
         answer_text(" ");
         if (header_of(message).message_class != STUN_TYPES_CLASS_REQUEST) answer_text("-");
-        else answer_accepted(message, decision, keys);
+        else if (write_accepted(&to, message, decision, keys)) answer_draft(&to);
     }
+}
+
+/* What a server sends back that serves binding requests of its users. */
+static void answer_by_reply(slice message, const stun_types_authentication *decision,
+                            const user_keys *keys, const slice *fresh) {
+    stun_types_header header = header_of(message);
+    bool is_request = header.message_class == STUN_TYPES_CLASS_REQUEST;
+    draft to;
+    (void)fresh;
+    if (header.method != STUN_TYPES_METHOD_BINDING) answer_text("-");
+    else if (decision->kind == STUN_TYPES_REFUSED)
+        answer_text("%u", (unsigned)decision->error_code);
+    else if (decision->kind != STUN_TYPES_ACCEPTED || !is_request) answer_text("-");
+    else if (write_accepted(&to, message, decision, keys))
+        answer_result(message, given(to.room, to.written));
 }
 
 /* Whether an authentication is an answer; else its struct says that nothing is decided. */
@@ -190,10 +220,8 @@ static bool has_decided(stun_types_answer answer, const stun_types_authenticatio
     return is_taken(answer);
 }
 
-static void short_term(void) {
-    stun_types_integrity made_for;
-    stun_types_policy policy = call_policy(&made_for);
-    slice message = call_octets();
+static void by_short_term(stun_types_policy policy, stun_types_integrity made_for, slice message,
+                          answering *answers) {
     size_t user = user_of(message);
     user_keys keys = {STUN_TYPES_KEY_INIT, STUN_TYPES_KEY_INIT};
     stun_types_authentication *decision = NEW(stun_types_authentication);
@@ -209,9 +237,15 @@ static void short_term(void) {
                                                           &keys.first, decision),
                        decision)) {
         CHECK(decision->password_algorithm == 0);
-        answer_decision(message, decision, &keys, NULL);
+        answers(message, decision, &keys, NULL);
     }
     stun_types_key_free(&keys.first);
+}
+
+static void short_term(void) {
+    stun_types_integrity made_for;
+    stun_types_policy policy = call_policy(&made_for);
+    by_short_term(policy, made_for, call_octets(), answer_decision);
 }
 
 /* Makes the key of a user by a password algorithm. */
@@ -231,10 +265,8 @@ static stun_types_nonce_state nonce_state(slice message, slice fresh, slice stal
     return is_same(nonce, stale) ? STUN_TYPES_NONCE_STALE : STUN_TYPES_NONCE_UNKNOWN;
 }
 
-static void long_term(void) {
-    stun_types_integrity made_for;
-    stun_types_policy policy = call_policy(&made_for);
-    slice fresh = call_octets(), stale = call_octets(), message = call_octets();
+static void by_long_term(stun_types_policy policy, stun_types_integrity made_for, slice fresh, slice stale,
+                         slice message, answering *answers) {
     size_t user = user_of(message);
     user_keys keys = {STUN_TYPES_KEY_INIT, STUN_TYPES_KEY_INIT};
     stun_types_authentication *decision = NEW(stun_types_authentication);
@@ -253,9 +285,24 @@ static void long_term(void) {
                            message.bytes, message.length, &policy, state, offered,
                            is_promised ? COUNT(offered) : 0, &keys.first, &keys.sha256, decision),
                        decision))
-        answer_decision(message, decision, &keys, &fresh);
+        answers(message, decision, &keys, &fresh);
     stun_types_key_free(&keys.first);
     stun_types_key_free(&keys.sha256);
+}
+
+static void long_term(void) {
+    stun_types_integrity made_for;
+    stun_types_policy policy = call_policy(&made_for);
+    slice fresh = call_octets(), stale = call_octets();
+    by_long_term(policy, made_for, fresh, stale, call_octets(), answer_decision);
+}
+
+void respond_to_user(bool by_nonce, slice message) {
+    const stun_types_policy policy = STUN_TYPES_POLICY_BOTH;
+    if (by_nonce)
+        by_long_term(policy, STUN_TYPES_INTEGRITY_ANY, text("obMatJos2AAAA-second"),
+                     text("obMatJos2AAAA-first"), message, answer_by_reply);
+    else by_short_term(policy, STUN_TYPES_INTEGRITY_ANY, message, answer_by_reply);
 }
 
 /* The password algorithms of a list of names. */
@@ -448,9 +495,9 @@ static void demand(void) {
     }
     count = strcmp(list, "none") == 0 ? 0 : algorithms_of(list, algorithms);
     if (other != NULL) in_realm = octets_of(other);
-    answer = stun_types_refuse_long_term(request.bytes, request.length, 401, in_realm.bytes,
-                                         in_realm.length, nonce.bytes, nonce.length, algorithms,
-                                         count, room(ROOM), ROOM, &written);
+    answer = stun_types_refuse_long_term(request.bytes, request.length, 401,
+                                         asked_for(in_realm, nonce, algorithms, count), room(ROOM),
+                                         ROOM, &written);
     if (answer.code == STUN_TYPES_BAD_ARGUMENT) answer_text(count == 0 ? "!NoList" : "!NotPromised");
     else if (is_taken(answer)) answer_text("ok");
 }

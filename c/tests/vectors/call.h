@@ -121,6 +121,15 @@ bool find_value(slice octets, uint16_t type, slice *value);
    it is none of them. */
 size_t user_of(slice message);
 
+/* ---- responders */
+
+/* Appends what a response to a request is: `success`, or the code of its error. */
+void answer_result(slice request, slice response);
+
+/* Answers with what a server of users sends back for a message: by long-term credentials if it has
+   nonces, else by short-term ones. */
+void respond_to_user(bool by_nonce, slice message);
+
 /* ---- verbs */
 
 /* A verb, the function that answers its calls, and whether a call of it may allocate. */
@@ -133,7 +142,7 @@ typedef struct {
 extern const verb verbs_of_parse[], verbs_of_show[], verbs_of_validate[], verbs_of_keys[],
     verbs_of_values[], verbs_of_write[], verbs_of_replies[], verbs_of_servers[], verbs_of_streams[],
     verbs_of_transactions[], verbs_of_authentication[], verbs_of_print[], verbs_of_turn[],
-    verbs_of_turn_datagrams[];
+    verbs_of_turn_datagrams[], verbs_of_responders[];
 
 /* The words of the classes, by their numbers. */
 extern const char *const class_words[4];

@@ -135,16 +135,19 @@ static stun_types_turn_settings settings_of(turn_row *it, char *word, uint64_t w
 }
 
 /* (the table takes more at once than what the call is given) */
-static stun_types_answer make_server(turn_row *it, const stun_types_turn_settings *settings) {
+static stun_types_answer make_server(turn_row *it, stun_types_turn_settings settings) {
     const stun_types_five_tuple own = turn_tuple(0);
-    slice listening = given(&own.server, sizeof own.server);
-    slice limits = given(settings, sizeof *settings);
-    slice realm = text(turn_realm), software = text("a server");
+    const slice realm = text(turn_realm), software = text("a server");
     stun_types_answer answer;
+    settings.realm = realm.bytes;
+    settings.realm_length = realm.length;
+    settings.software = software.bytes;
+    settings.software_length = software.length;
+    settings.listening = (const void *)given(&own.server, sizeof own.server).bytes;
+    settings.listening_count = 1;
     heap_measure(false);
-    answer = stun_types_turn_new(it->server, (const void *)limits.bytes, realm.bytes, realm.length,
-                                 software.bytes, software.length, &it->nonces.secret, NULL, 0, NULL,
-                                 0, (const void *)listening.bytes, 1);
+    answer = stun_types_turn_new(it->server, (const void *)given(&settings, sizeof settings).bytes,
+                                 &it->nonces.secret);
     heap_measure(true);
     return answer;
 }
@@ -169,7 +172,7 @@ bool turn_begin_row(turn_row *it, char *setup, uint64_t window) {
     it->head = room(STUN_TYPES_TURN_HEAD);
     it->server = NEW(stun_types_turn);
     *it->server = none;
-    answer = make_server(it, &settings);
+    answer = make_server(it, settings);
     if (answer.code == STUN_TYPES_OK) return true;
     CHECK(it->server->at == NULL && it->server->held == 0);
     is_taken(answer);

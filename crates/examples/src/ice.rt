@@ -10,10 +10,13 @@ use std::net::SocketAddr;
 use stun_authentication::{
     Authentication, Logins, Policy, authenticate_short_term, refuse_short_term,
 };
-use stun_types::attribute::{ErrorCode, KNOWN, Username, XorMappedAddress};
+use stun_types::attribute::{
+    AttributeStaticType, AttributeType, ErrorCode, KNOWN, UnknownAttributes, Username,
+    XorMappedAddress,
+};
 use stun_types::message::{
     BINDING, IntegrityAlgorithm, IntegrityKey, LongTermCredentials, Message, MessageClass,
-    MessageType, MessageWriteVec, StunWriteError, TransactionId,
+    MessageType, MessageWriteVec, StunParseError, StunWriteError, TransactionId, UnknownTypes,
 };
 use stun_types::prelude::*;
 
@@ -81,20 +84,46 @@ fn user_of(
     Ok(users)
 }
 
-/// The role that a check shows, and its tiebreaker.
-fn shown_role(alloc: Global, check: &Message<'_>) -> Option<(Role, u64)> {
-    if let Ok(shown) = check.attribute::<IceControlling>(alloc) {
-        return Some((Role::Controlling, shown.value()));
+/// What a check asks for that gets a success response.
+#[derive(Clone, Copy, Debug, PartialEq, Eq)]
+pub struct CheckContents {
+    /// The priority of the peer-reflexive candidate that the agent learns, if the check comes from an
+    /// address that is none of its peer's candidates yet (section 7.3.1.3).
+    pub priority: u32,
+    /// Whether the check nominates its pair (section 7.3.1.5).
+    pub nominates: bool,
+}
+
+/// What an agent answers to a check.
+#[derive(Drop)]
+pub struct CheckAnswer {
+    /// The response, to be sent to where the check came from.
+    pub response: Vec<u8>,
+    /// What the check asks for, if the response is a success.
+    pub accepted: Option<CheckContents>,
+}
+
+/// The role that a check shows, and its tiebreaker. An error if it shows both roles, or no number of
+/// 64 bits for one.
+fn shown_role(alloc: Global, check: &Message<'_>) -> Result<Option<(Role, u64)>, StunParseError> {
+    let is_controlled = check.has_attribute(IceControlled::TYPE);
+    if check.has_attribute(IceControlling::TYPE) {
+        if is_controlled {
+            return Err(StunParseError::InvalidAttributeData);
+        }
+        let shown = check.attribute::<IceControlling>(alloc)?;
+        return Ok(Some((Role::Controlling, shown.value())));
     }
-    match check.attribute::<IceControlled>(alloc) {
-        Ok(shown) => Some((Role::Controlled, shown.value())),
-        Err(_) => None,
+    if !is_controlled {
+        return Ok(None);
     }
+    let shown = check.attribute::<IceControlled>(alloc)?;
+    Ok(Some((Role::Controlled, shown.value())))
 }
 
 /// Decides about the role that a check shows. The agent switches to the other role if it has to.
-fn decide(alloc: Global, agent: &mut Agent<'_>, check: &Message<'_>) -> RoleDecision {
-    let Some((role, contents)) = shown_role(alloc, check) else {
+fn decide(agent: &mut Agent<'_>, shown: Option<(Role, u64)>) -> RoleDecision {
+    let Some((role, contents)) = shown else {
         return RoleDecision::Keep;
     };
     let decision = decide_role(agent.role, agent.tiebreaker, role, contents);
@@ -104,14 +133,65 @@ fn decide(alloc: Global, agent: &mut Agent<'_>, check: &Message<'_>) -> RoleDeci
     decision
 }
 
-/// The answer to a check that came from `source`: a success response with that address, or an
-/// error response, 420 for types that must be understood and aren't. `None` if the message gets none.
+/// The types that a check shows, that must be understood and aren't.
+fn unknown_types(alloc: Global, check: &Message<'_>) -> Result<Vec<AttributeType>, StunWriteError> {
+    let known = [&KNOWN[..], &ice_attrs::KNOWN];
+    let mut unknown = Vec::new(alloc);
+    for atype in UnknownTypes::with_lists(check.as_bytes(), &known) {
+        unknown.push(atype).map_err(AllocError::from)?;
+    }
+    Ok(unknown)
+}
+
+/// What a check asks for, or the code of the error response that it gets: 420 if it shows unknown types,
+/// 400 if it is malformed, 487 if both agents have the same role and the peer has to switch.
+fn judge(
+    alloc: Global,
+    agent: &mut Agent<'_>,
+    check: &Message<'_>,
+    unknown: &[AttributeType],
+) -> Result<CheckContents, u16> {
+    if !unknown.is_empty() {
+        return Err(ErrorCode::UNKNOWN_ATTRIBUTE);
+    }
+    let priority = check.attribute::<Priority>(alloc);
+    let (Ok(priority), Ok(shown)) = (priority, shown_role(alloc, check)) else {
+        return Err(ErrorCode::BAD_REQUEST);
+    };
+    if let Some(code) = decide(agent, shown).error_code() {
+        return Err(code);
+    }
+    Ok(CheckContents {
+        priority: priority.value(),
+        nominates: check.has_attribute(UseCandidate::TYPE),
+    })
+}
+
+/// Adds an error code with its reason, and the unknown types if there are some.
+fn add_error(
+    alloc: Global,
+    code: u16,
+    unknown: &[AttributeType],
+    reply: &mut MessageWriteVec,
+) -> Result<(), StunWriteError> {
+    let reason = ErrorCode::default_reason_for_code(code);
+    reply.add_attribute(&ErrorCode::new(alloc, code, reason)?)?;
+    if !unknown.is_empty() {
+        reply.add_attribute(&UnknownAttributes::new(alloc, unknown)?)?;
+    }
+    Ok(())
+}
+
+/// The answer to a check that came from `source`: a success response with that address, or an error
+/// response, 420 for types that must be understood and aren't, 400 without PRIORITY, with two roles or
+/// with a value of another length, 487 if the peer has to switch its role. `None` if the message gets no
+/// answer.
 pub fn answer(
     alloc: Global,
     agent: &mut Agent<'_>,
     check: &Message<'_>,
     source: SocketAddr,
-) -> Result<Option<Vec<u8>>, StunWriteError> {
+) -> Result<Option<CheckAnswer>, StunWriteError> {
     if !check.has_class(MessageClass::Request) || !check.has_method(BINDING) {
         return Ok(None);
     }
@@ -122,32 +202,33 @@ pub fn answer(
         fingerprint: true,
     };
     let vector = MessageWriteVec::new(alloc);
-    let accepted = match authenticate_short_term(alloc, check, policy, &Logins::new(&users))? {
-        Authentication::Accepted(accepted) => accepted,
+    let user = match authenticate_short_term(alloc, check, policy, &Logins::new(&users))? {
+        Authentication::Accepted(user) => user,
         Authentication::Refused(refusal) => {
-            return Ok(Some(refuse_short_term(alloc, check, refusal, vector)?.finish()));
+            return Ok(Some(CheckAnswer {
+                response: refuse_short_term(alloc, check, refusal, vector)?.finish(),
+                accepted: None,
+            }));
         }
         _ => return Ok(None),
     };
-    let known = [&KNOWN[..], &ice_attrs::KNOWN];
-    let unknown = Message::check_attribute_lists(alloc, check, &known, &[], vector)?;
-    if let Some(mut reply) = unknown {
-        accepted.finish_reply(true, &mut reply)?;
-        return Ok(Some(reply.finish()));
-    }
-    let vector = MessageWriteVec::new(alloc);
-    let mut reply = match decide(alloc, agent, check).error_code() {
-        Some(code) => {
-            let mut reply = Message::builder_error(check, vector)?;
-            reply.add_attribute(&ErrorCode::new(alloc, code, "Role Conflict")?)?;
-            reply
-        }
-        None => {
+    let unknown = unknown_types(alloc, check)?;
+    let judged = judge(alloc, agent, check, &unknown);
+    let mut reply = match judged {
+        Ok(_) => {
             let mut reply = Message::builder_success(check, vector)?;
             reply.add_attribute(&XorMappedAddress::new(source, check.transaction_id()))?;
             reply
         }
+        Err(code) => {
+            let mut reply = Message::builder_error(check, vector)?;
+            add_error(alloc, code, &unknown, &mut reply)?;
+            reply
+        }
     };
-    accepted.finish_reply(true, &mut reply)?;
-    Ok(Some(reply.finish()))
+    user.finish_reply(true, &mut reply)?;
+    Ok(Some(CheckAnswer {
+        response: reply.finish(),
+        accepted: judged.ok(),
+    }))
 }

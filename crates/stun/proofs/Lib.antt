@@ -1,3 +1,4 @@
 mod ArgumentsLemmas
 mod ChecksLemmas
 mod StreamLemmas
+mod ValuesLemmas

@@ -7,3 +7,4 @@ pub mod ReplyRun
 pub mod Shows
 pub mod StreamRun
 pub mod StreamSteps
+pub mod Values

@@ -8,8 +8,8 @@ const VERSION: &str = "0.1.0";
 
 /// What follows the help of each command.
 const STATUSES: &str = "Exit status: 0 for what was asked for; 1 for a refusal or a negative \
-answer (no message, an invalid one, an error response, a discarded one); 2 for wrong usage; 3 if \
-reading, writing or an allocation failed.";
+answer (no message, a malformed or an invalid one, an error response, a discarded one); 2 for wrong \
+usage; 3 if reading, writing or an allocation failed.";
 
 /// How an argument depends on another one.
 #[derive(Clone, Copy)]

@@ -15,9 +15,9 @@ use stun_programs::{InputError, RunError, WriteFailed};
 pub enum RunEnd {
     /// The help or the version was printed.
     Printed,
-    /// Each message was shown, and is valid if credentials are given.
+    /// Each message was shown, has no malformed value, and is valid if credentials are given.
     Shown,
-    /// Something that was shown is no message, or isn't valid.
+    /// Something that was shown is no message, has a malformed value, or isn't valid.
     Rejected,
     /// The reply to a datagram was written.
     Replied,

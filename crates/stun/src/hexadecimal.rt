@@ -44,6 +44,16 @@ impl HexError {
             HexError::NoMemory => "out of memory",
         }
     }
+
+    /// The code of the error in JSON.
+    pub fn code(self) -> &'static str {
+        match self {
+            HexError::Character => "not_hexadecimal",
+            HexError::Odd => "odd_digits",
+            HexError::Empty => "empty",
+            HexError::NoMemory => "out_of_memory",
+        }
+    }
 }
 
 /// Whether a byte may be between digits.

@@ -1,14 +1,17 @@
 //! What the value of an attribute is, by its type.
 
+use crate::fault::{Fault, push_fault};
+use crate::names::{push_algorithm, push_name};
+use crate::values::{fault_of, number_in};
 use std::alloc::AllocError;
 use std::net::SocketAddr;
 use stun_base::Hex;
-use stun_plain_text::{known_type, value_form};
+use stun_grammar::attribute_types::{PASSWORD_ALGORITHM, PASSWORD_ALGORITHMS};
+use stun_plain_text::value_form;
 use stun_types::attribute::{AttributeType, ValueForm};
 use stun_types::message::TransactionId;
-use stun_values::{
-    PasswordAlgorithmValue, TypedValue, read_address, read_algorithm, read_value, xor_addr,
-};
+use stun_values::{TypedValue, read_address, read_text, read_value, xor_addr};
+use turn_attrs::attribute_types::THIRD_PARTY_AUTHORIZATION;
 
 /// What a value is.
 #[derive(Clone, Copy)]
@@ -21,8 +24,8 @@ pub enum Reading<'a> {
     Address(SocketAddr),
     /// The code and the reason of an error.
     Failure(u16, &'a str),
-    /// A password algorithm.
-    Algorithm(PasswordAlgorithmValue),
+    /// The number of a password algorithm.
+    Algorithm(u16),
     /// A list of password algorithms, four octets each.
     Algorithms(&'a [u8]),
     /// A list of attribute types, two octets each.
@@ -31,80 +34,96 @@ pub enum Reading<'a> {
     Empty,
     /// Octets, of no form that is known.
     Octets(&'a [u8]),
-    /// Octets that are not what their type asks for.
-    Malformed(&'a [u8]),
+    /// Octets that are not what their type asks for, and why.
+    Malformed(Fault, &'a [u8]),
 }
 
-/// The reading of a value of one of the fifteen types of RFC 8489.
-fn of_typed<'a>(typed: TypedValue<'a>, id: TransactionId, value: &'a [u8]) -> Reading<'a> {
-    match typed {
-        TypedValue::Plain(text) | TypedValue::Quoted(text) => Reading::Text(text),
-        TypedValue::ErrorCode(code, reason) => Reading::Failure(code, reason),
-        TypedValue::Algorithm(algorithm) => Reading::Algorithm(algorithm),
-        TypedValue::Algorithms(_) => Reading::Algorithms(value),
-        TypedValue::Types(list) => Reading::Types(list),
-        TypedValue::Address(address) => Reading::Address(address),
-        TypedValue::XorAddress(address) => Reading::Address(xor_addr(address, id)),
-        TypedValue::Bytes(_) | TypedValue::Checksum(_) => Reading::Octets(value),
-    }
-}
-
-/// The number in the first octets of a value, if it has that many.
-fn number_in(value: &[u8], width: usize) -> Option<u64> {
-    match (width, value) {
-        (1, [byte, ..]) => Some(u64::from(*byte)),
-        (2, [high, low, ..]) => Some(u64::from(u16::from_be_bytes([*high, *low]))),
-        (4, [a, b, c, d, ..]) => Some(u64::from(u32::from_be_bytes([*a, *b, *c, *d]))),
-        (8, [a, b, c, d, e, f, g, h, ..]) => {
-            Some(u64::from_be_bytes([*a, *b, *c, *d, *e, *f, *g, *h]))
-        }
+/// The first two octets as a number.
+pub fn pair_in(octets: &[u8]) -> Option<u16> {
+    match octets {
+        [high, low, ..] => Some(u16::from_be_bytes([*high, *low])),
         _ => None,
     }
 }
 
-/// The reading of a number, of which the value has `width` octets, and is to have `length`.
-fn of_number(value: &[u8], width: usize, length: usize) -> Reading<'_> {
-    match number_in(value, width) {
-        Some(number) if value.len() == length => Reading::Number(number),
-        _ => Reading::Malformed(value),
+/// The reading of a value that the library has read.
+fn of_typed<'a>(typed: TypedValue<'a>, id: TransactionId, value: &'a [u8]) -> Reading<'a> {
+    match typed {
+        TypedValue::Plain(text) | TypedValue::Quoted(text) => Reading::Text(text),
+        TypedValue::ErrorCode(code, reason) => Reading::Failure(code, reason),
+        TypedValue::Types(list) => Reading::Types(list),
+        TypedValue::Address(address) => Reading::Address(address),
+        TypedValue::XorAddress(address) => Reading::Address(xor_addr(address, id)),
+        TypedValue::Bytes(_)
+        | TypedValue::Checksum(_)
+        | TypedValue::Algorithm(_)
+        | TypedValue::Algorithms(_) => Reading::Octets(value),
     }
 }
 
-/// The reading of a value of a type of ICE, TURN or NAT discovery, or of an unknown one.
-fn of_form(atype: AttributeType, id: TransactionId, value: &[u8]) -> Reading<'_> {
-    match value_form(atype.value()) {
-        Some(ValueForm::Number { width, .. }) => of_number(value, width, width),
-        Some(ValueForm::PaddedNumber { width, .. }) => of_number(value, width, 4),
-        Some(ValueForm::Address) => match read_address(value) {
-            Ok(address) => Reading::Address(address),
-            Err(_) => Reading::Malformed(value),
+/// The reading of octets of no form that is known.
+fn of_octets(value: &[u8]) -> Reading<'_> {
+    if value.is_empty() {
+        return Reading::Empty;
+    }
+    Reading::Octets(value)
+}
+
+/// The reading of a number in the first octets of a value.
+fn of_number(value: &[u8], width: usize) -> Reading<'_> {
+    match number_in(value, width) {
+        Some(number) => Reading::Number(number),
+        None => of_octets(value),
+    }
+}
+
+/// The reading of an address, which was XORed or not.
+fn of_address(value: &[u8], id: Option<TransactionId>) -> Reading<'_> {
+    match (read_address(value), id) {
+        (Ok(address), None) => Reading::Address(address),
+        (Ok(address), Some(id)) => Reading::Address(xor_addr(address, id)),
+        (Err(_), _) => of_octets(value),
+    }
+}
+
+/// The reading of a text.
+fn of_text(value: &[u8]) -> Reading<'_> {
+    match read_text(value, u16::MAX) {
+        Ok(text) => Reading::Text(text),
+        Err(_) => of_octets(value),
+    }
+}
+
+/// The reading of a value by the form of the values of its type.
+fn of_form(atype: u16, id: TransactionId, value: &[u8]) -> Reading<'_> {
+    match value_form(atype) {
+        Some(ValueForm::Number { width, .. } | ValueForm::PaddedNumber { width, .. }) => {
+            of_number(value, width)
+        }
+        Some(ValueForm::Address) => of_address(value, None),
+        Some(ValueForm::XorAddress) => of_address(value, Some(id)),
+        _ => of_octets(value),
+    }
+}
+
+/// The reading of a value that is what its type asks for.
+fn of_sound<'a>(atype: AttributeType, id: TransactionId, value: &'a [u8]) -> Reading<'a> {
+    match atype.value() {
+        PASSWORD_ALGORITHM => Reading::Algorithm(pair_in(value).unwrap_or(0)),
+        PASSWORD_ALGORITHMS => Reading::Algorithms(value),
+        THIRD_PARTY_AUTHORIZATION => of_text(value),
+        number => match read_value(atype, value) {
+            Some(Ok(typed)) => of_typed(typed, id, value),
+            _ => of_form(number, id, value),
         },
-        Some(ValueForm::XorAddress) => match read_address(value) {
-            Ok(address) => Reading::Address(xor_addr(address, id)),
-            Err(_) => Reading::Malformed(value),
-        },
-        _ if value.is_empty() => Reading::Empty,
-        _ => Reading::Octets(value),
     }
 }
 
 /// Reads the value of an attribute of this type, in a message with this transaction ID.
 pub fn read_as<'a>(atype: AttributeType, id: TransactionId, value: &'a [u8]) -> Reading<'a> {
-    match read_value(atype, value) {
-        Some(Ok(typed)) => of_typed(typed, id, value),
-        Some(Err(_)) => Reading::Malformed(value),
-        None => of_form(atype, id, value),
-    }
-}
-
-/// Appends the name of a type, or `unknown` and its number in hexadecimal.
-pub fn push_name(text: &mut String, atype: AttributeType) -> Result<(), AllocError> {
-    match known_type(atype.value()) {
-        Some(known) => text.push_str(known.name),
-        None => {
-            let number = atype.value().to_be_bytes();
-            write!(text, "unknown 0x{}", Hex(&number))
-        }
+    match fault_of(atype, value) {
+        Some(error) => Reading::Malformed(Fault::new(atype, value, error), value),
+        None => of_sound(atype, id, value),
     }
 }
 
@@ -123,14 +142,6 @@ pub fn push_escaped(text: &mut String, given: &str) -> Result<(), AllocError> {
     text.push('"')
 }
 
-/// The type in the first two octets.
-pub fn type_in(octets: &[u8]) -> Option<AttributeType> {
-    match octets {
-        [high, low, ..] => Some(AttributeType(u16::from_be_bytes([*high, *low]))),
-        _ => None,
-    }
-}
-
 /// Appends what is before an entry of a list: a comma and a space, unless it is the first.
 fn push_comma(text: &mut String, is_first: bool) -> Result<(), AllocError> {
     if is_first {
@@ -142,10 +153,10 @@ fn push_comma(text: &mut String, is_first: bool) -> Result<(), AllocError> {
 /// Appends the names of a list of types, with a comma and a space between them.
 fn push_types(text: &mut String, list: &[u8]) -> Result<(), AllocError> {
     let mut is_first = true;
-    for pair in list.chunks_exact(2) {
-        if let Some(atype) = type_in(pair) {
+    for entry in list.chunks_exact(2) {
+        if let Some(number) = pair_in(entry) {
             push_comma(text, is_first)?;
-            push_name(text, atype)?;
+            push_name(text, AttributeType(number))?;
             is_first = false;
         }
     }
@@ -156,14 +167,24 @@ fn push_types(text: &mut String, list: &[u8]) -> Result<(), AllocError> {
 fn push_algorithms(text: &mut String, list: &[u8]) -> Result<(), AllocError> {
     let mut is_first = true;
     for entry in list.chunks_exact(4) {
-        push_comma(text, is_first)?;
-        match read_algorithm(entry) {
-            Ok(algorithm) => write!(text, "{algorithm}")?,
-            Err(_) => text.push_str("unknown")?,
+        if let Some(number) = pair_in(entry) {
+            push_comma(text, is_first)?;
+            push_algorithm(text, number)?;
+            is_first = false;
         }
-        is_first = false;
     }
     Ok(())
+}
+
+/// Appends what is wrong with a value, and its octets, if it has some.
+fn push_malformed(text: &mut String, fault: Fault, value: &[u8]) -> Result<(), AllocError> {
+    text.push_str("malformed (")?;
+    push_fault(text, fault)?;
+    text.push_str(")")?;
+    if value.is_empty() {
+        return Ok(());
+    }
+    write!(text, " 0x{}", Hex(value))
 }
 
 /// Appends a reading as a text of one line.
@@ -176,11 +197,11 @@ pub fn push_reading(text: &mut String, reading: Reading<'_>) -> Result<(), Alloc
             write!(text, "{code} ")?;
             push_escaped(text, reason)
         }
-        Reading::Algorithm(algorithm) => write!(text, "{algorithm}"),
+        Reading::Algorithm(number) => push_algorithm(text, number),
         Reading::Algorithms(list) => push_algorithms(text, list),
         Reading::Types(list) => push_types(text, list),
         Reading::Empty => text.push_str("(empty)"),
         Reading::Octets(value) => write!(text, "0x{}", Hex(value)),
-        Reading::Malformed(value) => write!(text, "malformed 0x{}", Hex(value)),
+        Reading::Malformed(fault, value) => push_malformed(text, fault, value),
     }
 }

@@ -1,16 +1,18 @@
 //! `stun show`: runs over messages.
 
-ghost use Rattle.std.specs.Prelude.{IfOk, option_map};
+ghost use Rattle.std.specs.Prelude.{◌≡◌, IfOk, option_map};
 ghost use Rattle.stun_types.specs.Message.{message_bytes};
-ghost use Rattle.stun.specs.Shows.{EndsMessage, EndsOctets};
+ghost use Rattle.stun.specs.Shows.{end_by, EndsMessage, EndsOctets};
 
 use crate::end::{RunEnd, StunError};
 use crate::hexadecimal::{HexError, looks_hexadecimal, octets_of};
 use crate::input::{open_input, read_input};
 use crate::json::{push_error, push_object, push_refused_object};
+use crate::refused::{Refusal, push_refused};
 use crate::secret::password_of;
-use crate::show::{facts_of, push_message, push_refused};
+use crate::show::{facts_of, push_message};
 use crate::stream::read_piece;
+use crate::validation::Validated;
 use clap::ArgMatches;
 use std::alloc::{AllocError, Global};
 use std::io::{Read, Write};
@@ -33,6 +35,22 @@ fn worse(one: RunEnd, other: RunEnd) -> RunEnd {
     if one == RunEnd::Shown { other } else { one }
 }
 
+/// How a run ends by a message that has a malformed value or not, and by what its validation answers.
+fn end_by(malformed: bool, validated: Option<Validated>) -> RunEnd
+    ensures { result ≡ end_by malformed validated }
+{
+    match validated {
+        Some(Err(_)) => RunEnd::Rejected,
+        Some(Ok(_)) | None => {
+            if malformed {
+                RunEnd::Rejected
+            } else {
+                RunEnd::Shown
+            }
+        }
+    }
+}
+
 /// Appends the text of a message, and returns how the run ends.
 fn push_shown(
     alloc: Global,
@@ -49,9 +67,21 @@ fn push_shown(
     } else {
         push_message(text, message, &facts)?;
     }
-    match facts.validated {
-        Some(Err(_)) => Ok(RunEnd::Rejected),
-        _ => Ok(RunEnd::Shown),
+    Ok(end_by(facts.malformed, facts.validated))
+}
+
+/// Appends the text of octets that are no message.
+fn push_no_message(
+    alloc: Global,
+    text: &mut String,
+    bytes: &[u8],
+    refusal: Refusal,
+    manner: &Manner<'_>,
+) -> Result<(), AllocError> {
+    if manner.json {
+        push_refused_object(alloc, text, bytes, refusal)
+    } else {
+        push_refused(text, bytes, refusal)
     }
 }
 
@@ -66,12 +96,8 @@ fn push_octets(
 {
     match Message::from_bytes(bytes) {
         Ok(message) => push_shown(alloc, text, &message, manner),
-        Err(refusal) => {
-            if manner.json {
-                push_refused_object(alloc, text, bytes, refusal)?;
-            } else {
-                push_refused(text, bytes, refusal)?;
-            }
+        Err(error) => {
+            push_no_message(alloc, text, bytes, Refusal::new(bytes, error), manner)?;
             Ok(RunEnd::Rejected)
         }
     }
@@ -90,7 +116,7 @@ fn push_line(
         Err(HexError::NoMemory) => Err(StunError::Run(RunError::NoMemory)),
         Err(error) => {
             if manner.json {
-                push_error(alloc, text, error.words())?;
+                push_error(alloc, text, error.code(), error.words())?;
             } else {
                 text.push_str(error.words())?;
                 text.push_str("\n")?;

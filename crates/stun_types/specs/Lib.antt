@@ -3,6 +3,8 @@ pub mod Endings
 pub mod Validating
 pub mod LookingUp
 pub mod PrintedMessages
+pub mod Formatters
+pub mod FormattersLaws
 pub mod Offsets
 pub mod Writers
 pub mod Additions

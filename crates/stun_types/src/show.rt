@@ -8,6 +8,7 @@ mod printer;
 mod reading;
 mod registry;
 mod table;
+mod until_refused;
 mod written;
 
 pub use display_with::DisplayWith;
@@ -15,6 +16,7 @@ pub use message_printer::{MessagePrinter, print_message};
 pub use printer::AttributeDisplay;
 pub use reading::print_read;
 pub use registry::Registry;
+pub(crate) use until_refused::display;
 pub use written::ShowTextError;
 
 /// Registers a function that prints the attributes of a type of a user's own: it reads one, by

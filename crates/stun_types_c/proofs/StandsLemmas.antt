@@ -21,6 +21,7 @@ record Has (b : List ℕ) (offset : ℕ) (x : Shown) : Type 0 where
   behind : List ℕ
   whole : b ≡ before ++ (x.value ++ behind)
   at : x.offset + 4 ≡ offset + length before
+  from : offset ≤ x.offset
 
 here : (offset : ℕ) (a : Attribute) (more : List ℕ) → Has (encoding a ++ more) offset (record { offset = offset; type = a.type; value = a.value })
 unfolding encoding
@@ -29,6 +30,7 @@ here offset a more = record {
   behind = a.padding ++ more;
   whole = simp append_assoc;
   at = refl;
+  from = omega arith;
 }
 
 further : (offset : ℕ) (first more : List ℕ) (x : Shown) → Has more (offset + length first) x → Has (first ++ more) offset x
@@ -37,6 +39,7 @@ further offset first more x has = record {
   behind = has.behind;
   whole = ap (λ (t : List ℕ). first ++ t) has.whole ∙ sym (append_assoc first has.before (x.value ++ has.behind));
   at = omega (arith, has.at, length-append first has.before);
+  from = omega (arith, has.from);
 }
 
 step : (b : Bool) (offset : ℕ) (a : Attribute) (more : List ℕ) (others : List Shown) (x : Shown) → slice_get (cond b (record { offset = offset; type = a.type; value = a.value } ∷ others) others) 0 ≡ Some x → (slice_get others 0 ≡ Some x → Has more (offset + length (encoding a)) x) → Has (encoding a ++ more) offset x
@@ -55,8 +58,8 @@ among type offset (a ∷ attributes) others x e =
     (step (eqb a.type type) offset a (encodings attributes ++ others) (filter (λ (y : Shown). eqb y.type type) (placed behind attributes)) x e
     (λ later. among type behind attributes others x later))
 
--- the whole message has it
-found : (d : List ℕ) (type : ℕ) (x : Shown) → IsBytes d → nth d type 0 ≡ Some x → Has d 0 x
+-- the whole message has it, after its header
+found : (d : List ℕ) (type : ℕ) (x : Shown) → IsBytes d → nth d type 0 ≡ Some x → Has d 0 x × (20 ≤ x.offset)
 found d type x bytes e = elim (none_or_some (frame_fault d)) [
   | inl frame ↦
       let s = shows d bytes frame in
@@ -64,8 +67,10 @@ found d type x bytes e = elim (none_or_some (frame_fault d)) [
       ap (λ (xs : List Shown). slice_get (filter (λ (a : Shown). eqb a.type type) xs) 0) (sym s.shown_is) ∙ e in
       let there = (header_there d (frame_there d frame)).0 in
       let behind = subst (λ (b : List ℕ). Has b 20 x) (sym s.whole) (among type 20 (shown_prefix (chain (drop 20 d))) s.others x among-is) in
-      let header : 20 ≡ 0 + length (take 20 d) = omega (arith, length-take 20 d) in
-      subst (λ (b : List ℕ). Has b 0 x) (take-append-drop 20 d) (further 0 (take 20 d) (drop 20 d) x (subst (λ (n : ℕ). Has (drop 20 d) n x) header behind))
+      let header : 20 ≡ 0 + length (take 20 d) = omega (arith, length-take 20 d) in (
+        subst (λ (b : List ℕ). Has b 0 x) (take-append-drop 20 d) (further 0 (take 20 d) (drop 20 d) x (subst (λ (n : ℕ). Has (drop 20 d) n x) header behind)),
+        behind.from,
+      )
   | inr (reported, refused) ↦
       absurd (cc (ap (λ (xs : List Shown). slice_get (filter (λ (a : Shown). eqb a.type type) xs) 0) (nothing d reported refused), e))
 ]
@@ -82,12 +87,14 @@ range d x has =
 
 -- the bytes from there on are the value
 pub range_there : (d : List ℕ) (type : ℕ) (x : Shown) → IsBytes d → nth d type 0 ≡ Some x → slice_range d (x.offset + 4) (x.offset + 4 + length x.value) ≡ x.value
-range_there d type x bytes e = (range d x (found d type x bytes e)).1
+range_there d type x bytes e = (range d x (found d type x bytes e).0).1
 
 value_there : (d : List ℕ) (type : ℕ) (x : Shown) → IsBytes d → nth d type 0 ≡ Some x → value_of (in_c x) d ≡ Some x.value
 value_there d type x bytes e =
-    let there = range d x (found d type x bytes e) in
+    let has = found d type x bytes e in
+    let there = range d x has.0 in
     let within : x.offset + 4 + length x.value ≤ length d = there.0 in
+    let behind : 24 ≤ x.offset + 4 = omega (arith, has.1) in
     let is = there.1 in grind (arith, nat_tests)
 
 at_some : {A : Type 0} (P : A → Type 0) (o : Option A) → ((x : A) → o ≡ Some x → P x) → IfSome o P

@@ -1,5 +1,5 @@
 -- The texts of codes.
-use Rattle.std.specs.Prelude.{ℕ, ◌==◌, List, [], ◌∷◌, ◌++◌, codes, if◌then◌else◌}
+use Rattle.std.specs.Prelude.{ℕ, ◌-◌, ◌==◌, List, [], ◌∷◌, ◌++◌, take, codes, if◌then◌else◌}
 use Rattle.stun_types_c.specs.Codes.{OK, NOT_STUN, TRUNCATED, TOO_LARGE, FINGERPRINT_MISMATCH, MISSING_ATTRIBUTE, INVALID_DATA, INTEGRITY_FAILED, OUT_OF_MEMORY, TOO_SMALL, EXISTS, ENDING_TYPE, OUT_OF_RANGE, BAD_ARGUMENT, NO_KEY, NOT_PADDED, NOT_A_REQUEST, NOT_SIGNED, SIGNED, NOT_A_CHALLENGE, BID_DOWN, INCOMPLETE, NO_ALGORITHM, SAME_CREDENTIALS, HMAC_TOO_SHORT}
 
 -- a short English text for a code
@@ -31,6 +31,6 @@ code_text code =
     if code == SAME_CREDENTIALS then codes "the credentials were refused already" else (
     if code == HMAC_TOO_SHORT then codes "the HMAC is cut to too few bytes" else codes "unknown code"))))))))))))))))))))))))
 
--- the same, and a 0 after it
-abbrev pub ended_text : ℕ → List ℕ
-ended_text code = code_text code ++ 0 ∷ []
+-- a text, cut to a number of bytes with the 0 after it
+abbrev pub ended : (room : ℕ) (text : List ℕ) → List ℕ
+ended room text = if room == 0 then [] else take (room - 1) text ++ 0 ∷ []

@@ -20,6 +20,7 @@ use Rattle.stun_authentication.specs.Refusing.{mismatch, refusal_of, refusal_siz
 use Rattle.stun_authentication.specs.Writing.{no_room}
 use Rattle.stun_types_c.specs.declared.call_result.CResult.{CResult}
 use Rattle.stun_types_c.specs.declared.refusals.Cookie.{Cookie}
+use Rattle.stun_types_c.specs.declared.refusals.CAsked.{CAsked}
 use Rattle.stun_types_c.specs.CResults.{plain, counted, parse_result, write_result, Refuses}
 use Rattle.stun_types_c.specs.Codes.{OK, TOO_LARGE, INVALID_DATA, OUT_OF_MEMORY, TOO_SMALL, BAD_ARGUMENT, NOT_A_REQUEST}
 use Rattle.stun_types_c.specs.PasswordAlgorithms.{password_algorithms_named}
@@ -112,17 +113,21 @@ RefusesAsking r refusal asked result old new =
     (λ answer. Refuses answer result old new)
     ⊎ Refuses (plain OUT_OF_MEMORY) result old new
 
--- the same under long-term credentials, by the numbers of the code and of the algorithms
-abbrev pub RefusesLongTerm : List ℕ → (code : ℕ) → (realm nonce numbers : List ℕ) → CResult
-    → Written
-    → Written → Type 0
-RefusesLongTerm r code realm nonce numbers result old new =
+-- the algorithms that C passes, if `reserved` is 0
+abbrev pub algorithms_in : CAsked → Option (List PasswordAlgorithmValue)
+algorithms_in asked =
+    if asked.reserved == 0 then password_algorithms_named asked.algorithms.now else None
+
+-- the same under long-term credentials, by the number of the code and what C passes
+abbrev pub RefusesLongTerm : List ℕ → (code : ℕ) → CAsked → CResult → Written → Written → Type 0
+RefusesLongTerm r code asked result old new =
     MatchOption (message_answer r)
     (MatchOption (long_term_refusal code)
     (Refuses (plain BAD_ARGUMENT) result old new)
-    (λ refusal. MatchOption (password_algorithms_named numbers)
+    (λ refusal. MatchOption (algorithms_in asked)
     (Refuses (plain BAD_ARGUMENT) result old new)
-    (λ algorithms. RefusesAsking r refusal (asked_of realm nonce algorithms) result old new)))
+    (λ algorithms. RefusesAsking r refusal (asked_of asked.realm.now asked.nonce.now algorithms)
+    result old new)))
     (λ answer. Refuses answer result old new)
 
 -- ---- Security features

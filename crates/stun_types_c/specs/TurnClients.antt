@@ -28,9 +28,8 @@ use Rattle.turn_server.specs.declared.answer.Answer.TheVariants.{Allocated, Refu
 use Rattle.turn_server.specs.declared.sockets.Sockets.{Sockets}
 use Rattle.stun_types_c.specs.declared.address.Address.{Address}
 use Rattle.stun_types_c.specs.declared.call_result.CResult.{CResult}
-use Rattle.stun_types_c.specs.declared.turn_addresses.CFiveTuple.{CFiveTuple}
-use Rattle.stun_types_c.specs.declared.turn_addresses.CTurnReady.{CTurnReady}
 use Rattle.stun_types_c.specs.declared.turn_client.CTurnAction.{CTurnAction}
+use Rattle.stun_types_c.specs.declared.turn_client.CTurnDatagram.{CTurnDatagram}
 use Rattle.stun_types_c.specs.declared.turn_core.TurnCore.{TurnCore}
 use Rattle.stun_types_c.specs.Addresses.{Holds}
 use Rattle.stun_types_c.specs.Challenges.{value_at}
@@ -202,10 +201,18 @@ abbrev pub keys_in_c : (md5 sha256 : Option IntegrityKey) → Who → List ℕ �
     → Option UserKey
 keys_in_c md5 sha256 user realm = long_term_key_of (held_of md5) (held_of sha256)
 
-abbrev pub TakesDatagram : (now : ℕ) → CFiveTuple → List ℕ → CTurnReady → (looked_up : Bool)
-    → (md5 sha256 : Option IntegrityKey) → CResult → Left → Left → Type 0
-TakesDatagram now from d ready looked_up md5 sha256 result old new =
-    MatchOption (option_zip (tuple_named from) (sockets_named ready))
+-- the client, the 5-tuple and the sockets that C passes, if `reserved` is 0
+abbrev pub named_in : CTurnDatagram → Option ((SocketAddr × FiveTuple) × Sockets)
+named_in datagram =
+    if datagram.reserved == 0
+    then option_zip (tuple_named datagram.from) (sockets_named datagram.ready) else None
+
+abbrev pub TakesDatagram : (now : ℕ) → CTurnDatagram → (md5 sha256 : Option IntegrityKey) → CResult
+    → Left → Left → Type 0
+TakesDatagram now datagram md5 sha256 result old new =
+    let d = datagram.bytes.now in
+    let looked_up = not (datagram.looked_up == 0) in
+    MatchOption (named_in datagram)
     (Refuses (plain BAD_ARGUMENT) result old new)
     (λ named. MatchOption old.core
     (Refuses (plain BAD_ARGUMENT) result old new)

@@ -1,5 +1,5 @@
 -- How a TURN server is made by what C passes.
-use Rattle.std.specs.Prelude.{◌≡◌, ◌⊎◌, ℕ, Bool, not, ◌&&◌, List, length, map, Option, None, Some, is_some, IsSomeAnd, MatchOption, option_and_then, nat_lt, ◌==◌, if◌then◌else◌}
+use Rattle.std.specs.Prelude.{◌≡◌, ◌⊎◌, ℕ, Bool, true, not, ◌&&◌, ◌||◌, List, length, drop, map, Option, None, Some, is_some, IsSomeAnd, MatchOption, option_and_then, nat_lt, ◌==◌, if◌then◌else◌}
 use Rattle.std.specs.List.{list_all}
 use Rattle.std.specs.Option.{option_or, option_zip}
 use Rattle.std.specs.Result.{result_ok}
@@ -46,10 +46,15 @@ limits_named settings = record {
   old_channels = not (settings.old_channels == 0);
 }
 
+-- whether the octets after the four of an IPv4 address are 0
+abbrev pub is_whole : Address → Bool
+is_whole address =
+    if address.family == 4 then list_all (λ octet. octet == 0) (drop 4 address.octets) else true
+
 -- the prefix of an address, of at most 128 bits, if its other bits are 0
 abbrev pub prefix_named : CPrefix → Option Prefix
 prefix_named named =
-    if nat_lt 128 named.length then None
+    if nat_lt 128 named.length || not (is_whole named.address) then None
     else option_and_then (λ a. result_ok (prefix_of (socket_ip a) named.length))
     (socket_named named.address)
 
@@ -67,59 +72,56 @@ abbrev pub key_answer : Option IntegrityKey → Option CResult
 key_answer None = Some (plain NO_KEY)
 key_answer (Some key) = secret_answer (key_bytes key)
 
-abbrev pub access_answer : CTurnSettings → Option IntegrityKey → (realm : List ℕ) → Option CResult
-access_answer settings secret realm =
+abbrev pub access_answer : CTurnSettings → Option IntegrityKey → Option CResult
+access_answer settings secret =
     option_or (argument_answer (is_some (settings_named settings)))
-    (option_or (key_answer secret) (text_answer realm))
+    (option_or (key_answer secret) (text_answer settings.realm.now))
 
-abbrev pub rules_answer : (denied allowed : List CPrefix) → List Address → Option CResult
-rules_answer denied allowed listening =
+abbrev pub rules_answer : CTurnSettings → Option CResult
+rules_answer settings =
     argument_answer
-    (all_named prefix_named denied
-    && (all_named prefix_named allowed && all_named socket_named listening))
+    (all_named prefix_named settings.denied.now
+    && (all_named prefix_named settings.allowed.now
+    && all_named socket_named settings.listening.now))
 
 -- the first of these
-abbrev pub making_answer : CTurnSettings → Option IntegrityKey → (realm software : List ℕ)
-    → (denied allowed : List CPrefix) → List Address → Option CResult
-making_answer settings secret realm software denied allowed listening =
-    option_or (access_answer settings secret realm)
-    (option_or (text_answer software) (rules_answer denied allowed listening))
+abbrev pub making_answer : CTurnSettings → Option IntegrityKey → Option CResult
+making_answer settings secret =
+    option_or (access_answer settings secret)
+    (option_or (text_answer settings.software.now) (rules_answer settings))
 
 -- ---- The server
 
 -- its nonces, by a copy of the secret; its policy; and its realm
-pub record IsAccess (settings : CTurnSettings) (secret : Option IntegrityKey) (realm : List ℕ)
-    (access : Access) : Type 0 where
+pub record IsAccess (settings : CTurnSettings) (secret : Option IntegrityKey) (access : Access)
+    : Type 0 where
   pub settings_are : settings_named settings ≡ Some (access.policy, access.features)
   pub nonces_are : IsSomeAnd secret
       (λ key. minting_of access.maker ≡ minting (key_bytes key) access.features settings.window)
-  pub realm_is : text_bytes access.realm ≡ realm
+  pub realm_is : text_bytes access.realm ≡ settings.realm.now
 
 -- the prefixes and the addresses that C names, in order
-pub record AreRules (denied allowed : List CPrefix) (listening : List Address) (rules : PeerRules)
-    : Type 0 where
-  pub denied_are : map prefix_named denied ≡ map Some rules.denied.items
-  pub allowed_are : map prefix_named allowed ≡ map Some rules.allowed.items
-  pub listening_are : map socket_named listening ≡ map Some rules.listening.items
+pub record AreRules (settings : CTurnSettings) (rules : PeerRules) : Type 0 where
+  pub denied_are : map prefix_named settings.denied.now ≡ map Some rules.denied.items
+  pub allowed_are : map prefix_named settings.allowed.now ≡ map Some rules.allowed.items
+  pub listening_are : map socket_named settings.listening.now ≡ map Some rules.listening.items
 
 -- a text of no bytes: there is none
 abbrev pub software_named : List ℕ → Option (List ℕ)
 software_named text = if length text == 0 then None else Some text
 
 -- and it has no allocation
-pub record IsMade (settings : CTurnSettings) (secret : Option IntegrityKey) (realm software : List ℕ)
-    (denied allowed : List CPrefix) (listening : List Address) (core : TurnCore) : Type 0 where
+pub record IsMade (settings : CTurnSettings) (secret : Option IntegrityKey) (core : TurnCore)
+    : Type 0 where
   pub empty : core.server ≡ record { limits = limits_named settings; state = begun }
-  pub access_is : IsAccess settings secret realm core.access
-  pub software_is : software_in core ≡ software_named software
-  pub rules_are : AreRules denied allowed listening core.rules
+  pub access_is : IsAccess settings secret core.access
+  pub software_is : software_in core ≡ software_named settings.software.now
+  pub rules_are : AreRules settings core.rules
 
 -- a handle holds it, or the call returns why not, and the handle holds what it held
-abbrev pub Makes : CTurnSettings → Option IntegrityKey → (realm software : List ℕ)
-    → (denied allowed : List CPrefix) → List Address → CResult → (old new : Option TurnCore) → Type 0
-Makes settings secret realm software denied allowed listening result old new =
-    MatchOption (making_answer settings secret realm software denied allowed listening)
-    ((result ≡ plain OK)
-    × IsSomeAnd new (IsMade settings secret realm software denied allowed listening))
+abbrev pub Makes : CTurnSettings → Option IntegrityKey → CResult → (old new : Option TurnCore) → Type 0
+Makes settings secret result old new =
+    MatchOption (making_answer settings secret)
+    ((result ≡ plain OK) × IsSomeAnd new (IsMade settings secret))
     (λ answer. Refuses answer result old new)
     ⊎ Refuses (plain OUT_OF_MEMORY) result old new

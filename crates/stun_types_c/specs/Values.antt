@@ -6,11 +6,16 @@ use Rattle.stun_types_c.specs.declared.attribute.ShownAttribute.{ShownAttribute}
 use Rattle.stun_types_c.specs.Codes.{OK, BAD_ARGUMENT}
 use Rattle.stun_types_c.specs.CResults.{plain, parse_result}
 
--- the value of an attribute of the message d, as far as that is within d
+-- the offset of the first value that a message can have
+abbrev pub first_value : ℕ
+first_value = 24
+
+-- the value of an attribute of the message d, if that is within d
 abbrev pub value_of : ShownAttribute → List ℕ → Option (List ℕ)
 value_of attribute d =
+    if nat_lt attribute.value_at first_value then None else (
     if nat_lt (length d) (attribute.value_at + attribute.length) then None
-    else Some (slice_range d attribute.value_at (attribute.value_at + attribute.length))
+    else Some (slice_range d attribute.value_at (attribute.value_at + attribute.length)))
 
 -- what is reported of an error: its code, and where its reason is
 pub record ErrorOut : Type 0 where

@@ -1,11 +1,10 @@
 //! The texts of codes.
 
-ghost use Rattle.std.specs.Prelude.{◌≡◌, length};
-ghost use Rattle.stun_text.specs.Slices.{laid_over, counted};
-ghost use Rattle.stun_types_c.specs.CodeTexts.{code_text, ended_text};
+ghost use Rattle.std.specs.Prelude.{◌≡◌, ◌+◌, length};
+ghost use Rattle.stun_text.specs.Slices.{laid_over};
+ghost use Rattle.stun_types_c.specs.CodeTexts.{code_text, ended};
 
 use crate::codes;
-use stun_types::{PrintText, TextSink, write_text};
 
 /// A short English text for a code.
 fn code_text(code: u32) -> &'static str
@@ -41,34 +40,26 @@ fn code_text(code: u32) -> &'static str
     }
 }
 
-/// The text of a code, and a 0 after it.
-#[derive(Clone, Copy)]
-struct EndedText {
-    code: u32,
-}
-
-impl PrintText for EndedText {
-    ghost use Rattle.stun_types_c.specs.CodeTexts.{ended_text};
-
-    ghost text = { λ ended. ended_text ended.code };
-
-    #[tactic(auto, using(stun_text::proofs::Joining::both, stun_text::proofs::Joining::spelled_so))]
-    fn print<S: TextSink>(&self, sink: &mut S) -> Result<(), S::Error> {
-        sink.put(code_text(self.code))?;
-        sink.put("\0")?;
-        Ok(())
+/// Writes a text, and a 0 after it, at the start of a slice: as much of the text as fits with the 0.
+fn put_ended(text: &mut [u8], whole: &[u8])
+    ensures { text.new ≡ laid_over (ended (length text.old) whole.now) text.old }
+{
+    if text.is_empty() {
+        return;
     }
+    let length = whole.len().min(text.len() - 1);
+    text[..length].copy_from_slice(&whole[..length]);
+    text[length] = 0;
 }
 
-/// Writes the text of a code, and a 0 after it, at the start of a slice, as far as there is room.
-/// Returns how many bytes both have.
+/// Writes the text of a code, and a 0 after it, at the start of a slice. A text that is too long for that
+/// is cut, and ends with a 0 too. Returns how many bytes the whole text has with its 0.
 #[unsafe(no_mangle)]
 pub extern "C" fn stun_types_text(code: u32, text: &mut [u8]) -> usize
-    ensures count { result ≡ counted (length (ended_text code)) }
-    ensures text { text.new ≡ laid_over (ended_text code) text.old }
+    ensures count { result ≡ length (code_text code) + 1 }
+    ensures text { text.new ≡ laid_over (ended (length text.old) (code_text code)) text.old }
 {
-    match write_text(&EndedText { code }, text) {
-        Ok(length) => length,
-        Err(too_long) => too_long.length,
-    }
+    let whole = code_text(code).as_bytes();
+    put_ended(text, whole);
+    whole.len() + 1
 }

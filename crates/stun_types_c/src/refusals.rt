@@ -2,6 +2,7 @@
 //! promise.
 
 ghost use Rattle.std.specs.Prelude.{◌≡◌, ◌⊎◌, ◌≤◌, Some, None, length, take, MatchResult};
+ghost use Rattle.std.specs.Option.{option_map};
 ghost use Rattle.stun_base.specs.MessageTypes.{class_of};
 ghost use Rattle.stun_base.specs.declared.message_class.MessageClass.TheVariants.{Request};
 ghost use Rattle.stun_grammar.specs.Headers.{type_field};
@@ -11,7 +12,7 @@ ghost use Rattle.stun_authentication.specs.Cookies.{security_features};
 ghost use Rattle.stun_authentication.specs.Asking.{asked_in};
 ghost use Rattle.stun_types_c.specs.CResults.{plain};
 ghost use Rattle.stun_types_c.specs.Codes.{OUT_OF_MEMORY};
-ghost use Rattle.stun_types_c.specs.Refusals.{message_answer, short_term_refusal, long_term_refusal, text_answer, texts_answer, list_answer, asked_of, Delivers, WritesRefusal, RefusesShortTerm, RefusesAsking, RefusesLongTerm, features_named, TellsCookie, TellsFeatures};
+ghost use Rattle.stun_types_c.specs.Refusals.{message_answer, short_term_refusal, long_term_refusal, algorithms_in, text_answer, texts_answer, list_answer, asked_of, Delivers, WritesRefusal, RefusesShortTerm, RefusesAsking, RefusesLongTerm, features_named, TellsCookie, TellsFeatures};
 
 use crate::call_result::{CResult, counted, parse_result, plain, write_result};
 use crate::codes;
@@ -32,6 +33,20 @@ use stun_types::prelude::*;
 pub struct Cookie {
     /// The thirteen bytes.
     pub bytes: [u8; 13],
+}
+
+/// What a refusal under long-term credentials asks for.
+#[repr(C)]
+#[derive(Clone, Copy, Drop)]
+pub struct CAsked<'a> {
+    /// The text of the realm.
+    pub realm: &'a [u8],
+    /// The text of the nonce.
+    pub nonce: &'a [u8],
+    /// The numbers of the password algorithms, the preferred one first.
+    pub algorithms: &'a [u16],
+    /// 0.
+    pub reserved: u64,
 }
 
 /// The request that C passes.
@@ -228,19 +243,28 @@ fn refuse_asking(
     }
 }
 
+/// The algorithms that a refusal names, if C passes one of this version.
+fn algorithms_in(asked: &CAsked<'_>) -> Option<AlgorithmList>
+    ensures { algorithms_in asked.now
+        ≡ option_map (λ list. take list.count list.all) result }
+{
+    if asked.reserved != 0 {
+        return None;
+    }
+    algorithms_of(asked.algorithms)
+}
+
 /// Refuses a request by long-term credentials.
 #[unsafe(no_mangle)]
 pub extern "C" fn stun_types_refuse_long_term(
     alloc: Global,
     request: &[u8],
     code: u32,
-    realm: &[u8],
-    nonce: &[u8],
-    algorithms: &[u16],
+    asked: &CAsked<'_>,
     room: &mut [u8],
     written: &mut usize,
 ) -> CResult
-    ensures { RefusesLongTerm request.now code realm.now nonce.now algorithms.now result
+    ensures { RefusesLongTerm request.now code asked.now result
         (record { slice = room.old; count = written.old })
         (record { slice = room.new; count = written.new }) }
 {
@@ -251,14 +275,14 @@ pub extern "C" fn stun_types_refuse_long_term(
     let Some(refusal) = long_term_refusal(code) else {
         return plain(codes::BAD_ARGUMENT);
     };
-    match algorithms_of(algorithms) {
+    match algorithms_in(asked) {
         Some(algorithms) => {
             refuse_asking(
                 alloc,
                 &message,
                 refusal,
-                realm,
-                nonce,
+                asked.realm,
+                asked.nonce,
                 &algorithms,
                 room,
                 written,

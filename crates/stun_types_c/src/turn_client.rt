@@ -54,6 +54,22 @@ pub struct CTurnAction {
     pub code: u32,
 }
 
+/// A client's datagram, as C passes it.
+#[repr(C)]
+#[derive(Clone, Copy, Drop)]
+pub struct CTurnDatagram<'a> {
+    /// The datagram.
+    pub bytes: &'a [u8],
+    /// The client, the address of the server and the transport.
+    pub from: CFiveTuple,
+    /// The sockets that are ready.
+    pub ready: CTurnReady,
+    /// Not 0: the keys of its user were looked up.
+    pub looked_up: u16,
+    /// 0.
+    pub reserved: u64,
+}
+
 /// What C does if nothing else is due: nothing, or look for a key.
 fn of_kind(kind: u32) -> CTurnAction
     ensures { result ≡ of_kind kind }
@@ -350,30 +366,34 @@ pub extern "C" fn stun_types_turn_client(
     alloc: Global,
     server: &mut CTurn,
     now: u64,
-    from: &CFiveTuple,
-    datagram: &[u8],
-    ready: &CTurnReady,
-    looked_up: bool,
+    datagram: &CTurnDatagram<'_>,
     md5_key: &SharedKey,
     sha256_key: &SharedKey,
     room: &mut [u8],
     action: &mut CTurnAction,
 ) -> CResult
-    ensures { TakesDatagram now from.now datagram.now ready.now looked_up (shared_key md5_key.now)
-        (shared_key sha256_key.now) result
+    ensures { TakesDatagram now datagram.now (shared_key md5_key.now) (shared_key sha256_key.now) result
         (record { core = held_turn server.old; slice = room.old; action = nothing })
         (record { core = held_turn server.new; slice = room.new; action = action.new }) }
 {
     *action = of_kind(0);
-    let (Some((client, tuple)), Some(sockets)) = (tuple_of(from), sockets_of(ready)) else {
+    if datagram.reserved != 0 {
+        return plain(codes::BAD_ARGUMENT);
+    }
+    let (Some((client, tuple)), Some(sockets)) = (
+        tuple_of(&datagram.from),
+        sockets_of(&datagram.ready),
+    ) else {
         return plain(codes::BAD_ARGUMENT);
     };
     let Some(mut core) = take(server, alloc) else {
         return plain(codes::BAD_ARGUMENT);
     };
     let keys = user_of(md5_key, sha256_key);
+    let looked_up = datagram.looked_up != 0;
+    let bytes = datagram.bytes;
     let result = take_known(
-        alloc, &mut core, now, client, &tuple, datagram, sockets, looked_up, &keys, room, action,
+        alloc, &mut core, now, client, &tuple, bytes, sockets, looked_up, &keys, room, action,
     );
     put(server, core);
     result

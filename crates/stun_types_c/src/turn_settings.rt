@@ -1,6 +1,7 @@
 //! Making a TURN server, and ending it.
 
-ghost use Rattle.std.specs.Prelude.{◌≡◌, ◌⊎◌, true, false, map, is_some, Some, None, IfOk, IsSomeAnd, MatchResult, MatchOption, box_value};
+ghost use Rattle.std.specs.Prelude.{◌≡◌, ◌≤◌, ◌⊎◌, ◌==◌, true, false, length, drop, map, is_some, Some, None, All, IfOk, IsSomeAnd, MatchResult, MatchOption, box_value};
+ghost use Rattle.std.specs.List.{list_all};
 ghost use Rattle.std.specs.Option.{option_map, option_or};
 ghost use Rattle.stun_attributes.specs.Texts.{text_bytes};
 ghost use Rattle.stun_keys.specs.Keys.{key_bytes};
@@ -12,7 +13,7 @@ ghost use Rattle.stun_types_c.specs.Codes.{OUT_OF_MEMORY, BAD_ARGUMENT};
 ghost use Rattle.stun_types_c.specs.KeyHandles.{shared_key};
 ghost use Rattle.stun_types_c.specs.Refusals.{text_answer};
 ghost use Rattle.stun_types_c.specs.TurnHandles.{held_turn};
-ghost use Rattle.stun_types_c.specs.TurnMaking.{settings_named, limits_named, prefix_named, all_named, key_answer, access_answer, rules_answer, making_answer, software_named, IsAccess, AreRules, IsMade, Makes};
+ghost use Rattle.stun_types_c.specs.TurnMaking.{settings_named, limits_named, is_whole, prefix_named, all_named, key_answer, access_answer, rules_answer, making_answer, software_named, IsAccess, AreRules, IsMade, Makes};
 ghost use Rattle.stun_types_c.specs.Versions.{no_key};
 
 use crate::address::{Address, socket_of};
@@ -24,7 +25,7 @@ use crate::shared_key::SharedKey;
 use crate::stateless_nonces::maker_of;
 use crate::turn_core::{Access, PeerRules, TurnCore};
 use crate::turn_handle::CTurn;
-use crate::turn_store::put;
+use crate::turn_store::{put, release};
 use crate::values::text_in;
 use crate::versions::NoKey;
 use std::alloc::{AllocError, Global};
@@ -38,7 +39,7 @@ use turn_table::peers::Prefix;
 /// What a TURN server is made by, as C sets it.
 #[repr(C)]
 #[derive(Clone, Copy, Drop)]
-pub struct CTurnSettings {
+pub struct CTurnSettings<'a> {
     /// For how many seconds a nonce is valid.
     pub window: u64,
     /// What keys the hash of 5-tuples.
@@ -57,6 +58,16 @@ pub struct CTurnSettings {
     pub channel_permits: u32,
     /// Not 0: channels of RFC 5766 are allowed too.
     pub old_channels: u32,
+    /// The text of the realm of its users.
+    pub realm: &'a [u8],
+    /// The text of the SOFTWARE of responses, or no bytes.
+    pub software: &'a [u8],
+    /// The prefixes of the peers that are denied.
+    pub denied: &'a [CPrefix],
+    /// Those that are allowed.
+    pub allowed: &'a [CPrefix],
+    /// The addresses that clients send to.
+    pub listening: &'a [Address],
     /// 0.
     pub reserved: u64,
 }
@@ -79,19 +90,43 @@ pub extern "C" fn stun_types_turn_none() -> NoKey
     NoKey { at: 0, held: 0 }
 }
 
-/// Ends the server that a handle holds. Of one that holds none it does nothing.
+/// Ends the servers that the handles hold. Of a handle that holds none it does nothing.
 #[unsafe(no_mangle)]
-pub extern "C" fn stun_types_turn_free(alloc: Global, server: &mut CTurn)
-    ensures { held_turn server.new ≡ None }
+pub extern "C" fn stun_types_turns_free(alloc: Global, servers: &mut [CTurn])
+    ensures { All (λ server. held_turn server ≡ None) servers.new }
 {
-    *server = CTurn::none(alloc);
+    for server in servers.iter_mut() {
+        release(server, alloc);
+    }
+}
+
+/// Whether all octets are 0.
+fn are_zeros(octets: &[u8]) -> bool
+    ensures { result ≡ list_all (λ octet. octet == 0) octets.now }
+{
+    octets.iter().all(|octet| *octet == 0)
+}
+
+/// Whether all octets but the first four are 0.
+fn has_four(octets: &[u8]) -> bool
+    requires { 4 ≤ length octets.now }
+    ensures { result ≡ list_all (λ octet. octet == 0) (drop 4 octets.now) }
+{
+    are_zeros(&octets[4..])
+}
+
+/// Whether the octets after those of its family are 0.
+fn is_whole(address: &Address) -> bool
+    ensures { result ≡ is_whole address.now }
+{
+    address.family != 4 || has_four(&address.octets)
 }
 
 /// The prefix that C's form names.
 fn prefix_of(named: &CPrefix) -> Option<Prefix>
     ensures { result ≡ prefix_named named.now }
 {
-    if named.length > 128 {
+    if named.length > 128 || !is_whole(&named.address) {
         return None;
     }
     let address = socket_of(&named.address)?;
@@ -141,21 +176,14 @@ fn addresses_of(alloc: Global, named: &[Address]) -> Result<Vec<SocketAddr>, CRe
 }
 
 /// The rules of what C passes.
-fn rules_of(
-    alloc: Global,
-    denied: &[CPrefix],
-    allowed: &[CPrefix],
-    listening: &[Address],
-) -> Result<PeerRules, CResult>
+fn rules_of(alloc: Global, settings: &CTurnSettings<'_>) -> Result<PeerRules, CResult>
     ensures { MatchResult result
-        (λ rules. (rules_answer denied.now allowed.now listening.now ≡ None)
-        × AreRules denied.now allowed.now listening.now rules)
-        (λ answer. (rules_answer denied.now allowed.now listening.now ≡ Some answer)
-        ⊎ (answer ≡ plain OUT_OF_MEMORY)) }
+        (λ rules. (rules_answer settings.now ≡ None) × AreRules settings.now rules)
+        (λ answer. (rules_answer settings.now ≡ Some answer) ⊎ (answer ≡ plain OUT_OF_MEMORY)) }
 {
-    let denied = prefixes_of(alloc, denied)?;
-    let allowed = prefixes_of(alloc, allowed)?;
-    let listening = addresses_of(alloc, listening)?;
+    let denied = prefixes_of(alloc, settings.denied)?;
+    let allowed = prefixes_of(alloc, settings.allowed)?;
+    let listening = addresses_of(alloc, settings.listening)?;
     Ok(PeerRules {
         denied,
         allowed,
@@ -203,7 +231,7 @@ fn maker_with(
 }
 
 /// The policy and the features of the settings.
-fn checked(settings: &CTurnSettings) -> Option<(Policy, SecurityFeatures)>
+fn checked(settings: &CTurnSettings<'_>) -> Option<(Policy, SecurityFeatures)>
     ensures { result ≡ settings_named settings.now }
 {
     if settings.reserved != 0 {
@@ -217,22 +245,20 @@ fn checked(settings: &CTurnSettings) -> Option<(Policy, SecurityFeatures)>
 /// How a server authenticates by what C passes.
 fn access_of(
     alloc: Global,
-    settings: &CTurnSettings,
-    realm: &[u8],
+    settings: &CTurnSettings<'_>,
     secret: &SharedKey,
 ) -> Result<Access, CResult>
     ensures { let key = shared_key secret.now in
         MatchResult result
-        (λ access. (access_answer settings.now key realm.now ≡ None)
-        × IsAccess settings.now key realm.now access)
-        (λ answer. (access_answer settings.now key realm.now ≡ Some answer)
+        (λ access. (access_answer settings.now key ≡ None) × IsAccess settings.now key access)
+        (λ answer. (access_answer settings.now key ≡ Some answer)
         ⊎ (answer ≡ plain OUT_OF_MEMORY)) }
 {
     let Some((policy, features)) = checked(settings) else {
         return Err(plain(codes::BAD_ARGUMENT));
     };
     let maker = maker_with(alloc, secret, features, settings.window)?;
-    let realm = realm_of(alloc, realm)?;
+    let realm = realm_of(alloc, settings.realm)?;
     Ok(Access {
         maker,
         realm,
@@ -242,7 +268,7 @@ fn access_of(
 }
 
 /// The bounds of the settings.
-fn limits_of(settings: &CTurnSettings) -> Limits
+fn limits_of(settings: &CTurnSettings<'_>) -> Limits
     ensures { result ≡ limits_named settings.now }
 {
     Limits {
@@ -257,7 +283,7 @@ fn limits_of(settings: &CTurnSettings) -> Limits
 /// A server on the heap, with no allocation.
 fn core_of(
     alloc: Global,
-    settings: &CTurnSettings,
+    settings: &CTurnSettings<'_>,
     access: Access,
     software: Option<Software>,
     rules: PeerRules,
@@ -282,26 +308,18 @@ fn core_of(
 /// A server by what C passes.
 fn made_of(
     alloc: Global,
-    settings: &CTurnSettings,
-    realm: &[u8],
-    software: &[u8],
+    settings: &CTurnSettings<'_>,
     secret: &SharedKey,
-    denied: &[CPrefix],
-    allowed: &[CPrefix],
-    listening: &[Address],
 ) -> Result<Box<TurnCore>, CResult>
     ensures { let key = shared_key secret.now in
-        let answer = making_answer settings.now key realm.now software.now denied.now allowed.now
-        listening.now in
         MatchResult result
-        (λ boxed. (answer ≡ None)
-        × IsMade settings.now key realm.now software.now denied.now allowed.now listening.now
-        (box_value boxed))
-        (λ why. (answer ≡ Some why) ⊎ (why ≡ plain OUT_OF_MEMORY)) }
+        (λ boxed. (making_answer settings.now key ≡ None)
+        × IsMade settings.now key (box_value boxed))
+        (λ why. (making_answer settings.now key ≡ Some why) ⊎ (why ≡ plain OUT_OF_MEMORY)) }
 {
-    let access = access_of(alloc, settings, realm, secret)?;
-    let software = software_of(alloc, software)?;
-    let rules = rules_of(alloc, denied, allowed, listening)?;
+    let access = access_of(alloc, settings, secret)?;
+    let software = software_of(alloc, settings.software)?;
+    let rules = rules_of(alloc, settings)?;
     match core_of(alloc, settings, access, software, rules) {
         Ok(core) => Ok(core),
         Err(AllocError) => Err(plain(codes::OUT_OF_MEMORY)),
@@ -313,20 +331,13 @@ fn made_of(
 pub extern "C" fn stun_types_turn_new(
     alloc: Global,
     server: &mut CTurn,
-    settings: &CTurnSettings,
-    realm: &[u8],
-    software: &[u8],
+    settings: &CTurnSettings<'_>,
     secret: &SharedKey,
-    denied: &[CPrefix],
-    allowed: &[CPrefix],
-    listening: &[Address],
 ) -> CResult
-    ensures { Makes settings.now (shared_key secret.now) realm.now software.now denied.now
-        allowed.now listening.now result (held_turn server.old) (held_turn server.new) }
+    ensures { Makes settings.now (shared_key secret.now) result (held_turn server.old)
+        (held_turn server.new) }
 {
-    match made_of(
-        alloc, settings, realm, software, secret, denied, allowed, listening,
-    ) {
+    match made_of(alloc, settings, secret) {
         Ok(core) => {
             put(server, core);
             plain(codes::OK)

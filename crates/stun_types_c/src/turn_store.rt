@@ -24,6 +24,13 @@ pub(crate) fn put(handle: &mut CTurn, core: Box<TurnCore>)
     *handle = CTurn::of(core);
 }
 
+/// Ends the server that the handle holds. The handle then holds none.
+pub(crate) fn release(handle: &mut CTurn, alloc: Global)
+    ensures { held_turn handle.new ≡ None }
+{
+    *handle = CTurn::none(alloc);
+}
+
 /// A law: a handle may go to another thread, if a lock or a join orders what the two do with it.
 pub fn server_may_go_to_another_thread()
     ensures { IsSend the_row }

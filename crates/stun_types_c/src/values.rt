@@ -10,12 +10,18 @@ use crate::call_result::{CResult, parse_result, plain};
 use crate::codes;
 use stun_types::attribute::read_error;
 
-/// The value of an attribute; `None` if it isn't within the bytes.
+/// The offset of the first value that a message can have: after its header and that of an attribute.
+const FIRST_VALUE: usize = 24;
+
+/// The value of an attribute; `None` if the bytes have none there.
 pub(crate) fn value_in<'a>(bytes: &'a [u8], attribute: &ShownAttribute) -> Option<&'a [u8]>
     ensures { value_of attribute.now bytes.now ≡ option_map (λ value. value.now) result }
 {
     let length = attribute.length as usize;
-    if attribute.value_at > bytes.len() || length > bytes.len() - attribute.value_at {
+    if attribute.value_at < FIRST_VALUE || attribute.value_at > bytes.len() {
+        return None;
+    }
+    if length > bytes.len() - attribute.value_at {
         return None;
     }
     Some(&bytes[attribute.value_at..attribute.value_at + length])

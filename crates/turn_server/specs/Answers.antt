@@ -1,12 +1,14 @@
 -- The responses to the requests of users that the table answers (RFC 8656, sections 7.2, 8.2, 10.2 and
 -- 12.2), and the one to a request that isn't comprehended. They are signed by the user's key (RFC
 -- 8489, section 9.2.4).
-use Rattle.std.specs.Prelude.{ℕ, List, [], ◌∷◌, ◌++◌, length, drop, Option, None, Some, is_some, if◌then◌else◌}
+use Rattle.std.specs.Prelude.{ℕ, List, [], ◌∷◌, ◌++◌, length, drop, Option, None, Some, is_some, nat_lt, if◌then◌else◌}
 use Rattle.std.specs.Option.{option_or}
+use Rattle.stun_grammar.specs.declared.attribute_type.AttributeType.{AttributeType}
 use Rattle.stun_grammar.specs.declared.error.StunWriteError.{StunWriteError}
+use Rattle.stun_grammar.specs.declared.error.StunWriteError.TheVariants.{TooLarge}
 use Rattle.stun_grammar.specs.declared.integrity_algorithm.IntegrityAlgorithm.{IntegrityAlgorithm}
 use Rattle.stun_grammar.specs.Attributes.{Attribute, canonical}
-use Rattle.stun_grammar.specs.AttributeTypes.{SOFTWARE, XOR_MAPPED_ADDRESS}
+use Rattle.stun_grammar.specs.AttributeTypes.{SOFTWARE, UNKNOWN_ATTRIBUTES, XOR_MAPPED_ADDRESS}
 use Rattle.stun_grammar.specs.Headers.{id_field}
 use Rattle.stun_grammar.specs.Numbers.{be32}
 use Rattle.stun_grammar.specs.Steps.{sign}
@@ -15,9 +17,10 @@ use Rattle.stun_base.specs.declared.message_class.MessageClass.{MessageClass}
 use Rattle.stun_base.specs.declared.message_class.MessageClass.TheVariants.{Success, Error as ErrorClass}
 use Rattle.stun_values.specs.Addresses.{xored_value}
 use Rattle.stun_values.specs.ErrorValues.{error_value, making_fault}
+use Rattle.stun_values.specs.TypeLists.{types_encoding}
 use Rattle.stun_attributes.specs.DefaultReasons.{default_reason}
 use Rattle.stun_types.specs.LookingUp.{nth}
-use Rattle.stun_types.specs.Replies.{error_attribute, response_type, first_refusal, unknown_reply, unknown_types}
+use Rattle.stun_types.specs.Replies.{error_attribute, response_type, unknown_types}
 use Rattle.stun_authentication.specs.Policies.{is_fingerprinted}
 use Rattle.stun_authentication.specs.Writing.{no_room, sizes, print_steps, signed_reply, signing_refusal, step_sizes}
 use Rattle.turn_attrs.specs.Turn.{ADDITIONAL_ADDRESS_FAMILY, ADDRESS_ERROR_CODE, LIFETIME, XOR_RELAYED_ADDRESS}
@@ -96,9 +99,14 @@ abbrev pub answer_text : (software : Option (List ℕ)) → (client : Endpoint) 
 answer_text software client r answer key algorithm =
     signed_response (answer_class answer) r (answer_attributes software client r answer) algorithm key
 
+-- a list of types (RFC 8489, section 14.13)
+abbrev pub list_attribute : List AttributeType → Attribute
+list_attribute types = canonical UNKNOWN_ATTRIBUTES (types_encoding types)
+
 -- the attributes of the 420 that lists the types that r shows and that aren't comprehended
 abbrev pub unknown_attributes : (r : List ℕ) → List Attribute
-unknown_attributes r = unknown_reply (unknown_types comprehended r)
+unknown_attributes r =
+    error_attribute 420 (default_reason 420) ∷ list_attribute (unknown_types comprehended r) ∷ []
 
 abbrev pub unknown_text : (r : List ℕ) → (key : List ℕ) → IntegrityAlgorithm → List ℕ
 unknown_text r key algorithm = signed_response ErrorClass r (unknown_attributes r) algorithm key
@@ -133,10 +141,21 @@ answer_refusal greatest software client r answer made_for algorithm =
     option_or (unfinished_refusal greatest answer attributes)
     (finish_refusal greatest (answer_class answer) r attributes made_for algorithm)
 
+-- an attribute can't list so many types
+abbrev pub list_fault : (r : List ℕ) → Option StunWriteError
+list_fault r =
+    let count = length (unknown_types comprehended r) in
+    if nat_lt 32767 count then Some (TooLarge 32767 count) else None
+
+-- the list, or the first attribute that doesn't fit
+abbrev pub listing_refusal : (greatest : Option ℕ) → (r : List ℕ) → Option StunWriteError
+listing_refusal greatest r =
+    option_or (list_fault r) (no_room greatest 20 (sizes (unknown_attributes r)))
+
 abbrev pub unknown_refusal : (greatest : Option ℕ) → (r : List ℕ)
     → (made_for : Option IntegrityAlgorithm) → IntegrityAlgorithm → Option StunWriteError
 unknown_refusal greatest r made_for algorithm =
-    option_or (first_refusal greatest [] (unknown_attributes r))
+    option_or (listing_refusal greatest r)
     (finish_refusal greatest ErrorClass r (unknown_attributes r) made_for algorithm)
 
 -- the codes of the table's answers, and those that refuse a request by its bytes

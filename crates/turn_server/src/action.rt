@@ -68,16 +68,20 @@ pub enum Action<'d> {
     /// Refuse a user's request with 420, since it shows types that aren't comprehended:
     /// [`write_unknown`](crate::write_unknown) writes the error response.
     Unknown(Accepted<'d>),
-    /// Answer a user's request: [`write_answer`](crate::write_answer) writes the response.
-    /// If it opened an allocation, `took` is the number of its socket: the one that was ready with the
-    /// relayed address of the answer. Keep the socket by this number, even if the response can't be
-    /// written, and have another one ready for the next call.
+    /// Answer a user's request, and if `took` is `Some(number)`, keep the socket that was ready in a map
+    /// under this number, by which [`Action::ToPeer`], `TurnServer::on_peer_datagram` and
+    /// `TurnServer::poll` name it. [`write_answer`](crate::write_answer) writes the response.
+    ///
+    /// `took` has a number if the request opened an allocation: the socket that was ready with the
+    /// relayed address of the answer is that allocation's from then on. No other allocation has the
+    /// number until `poll` returns it; then close the socket, and remove it from the map. Keep the socket
+    /// even if the response can't be written, and have another one ready for the next call.
     Answered {
         answer: Answer,
         took: Option<u64>,
         accepted: Accepted<'d>,
     },
-    /// Send the data to the peer, from the socket of this number.
+    /// Send the data to the peer, from the socket that is kept under the number `relay`.
     ToPeer {
         relay: u64,
         peer: Endpoint,

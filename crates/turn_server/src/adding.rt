@@ -6,6 +6,7 @@ ghost use Rattle.stun_base.specs.declared.message_class.MessageClass.TheVariants
 ghost use Rattle.stun_attributes.specs.ErrorCodes.{error_code, error_reason};
 ghost use Rattle.stun_attributes.specs.Kinds.{xored_of};
 ghost use Rattle.stun_attributes.specs.Texts.{text_bytes};
+ghost use Rattle.stun_attributes.specs.Unknown.{listed};
 ghost use Rattle.stun_grammar.specs.Attributes.{canonical};
 ghost use Rattle.stun_grammar.specs.AttributeTypes.{IsOrdinary, SOFTWARE, XOR_MAPPED_ADDRESS};
 ghost use Rattle.stun_values.specs.Addresses.{address_value};
@@ -14,11 +15,11 @@ ghost use Rattle.stun_types.specs.Replies.{error_attribute};
 ghost use Rattle.stun_authentication.specs.Writing.{Lengthens};
 ghost use Rattle.turn_attrs.specs.Turn.{XOR_RELAYED_ADDRESS, seconds_of};
 ghost use Rattle.turn_table.specs.Events.{allocated};
-ghost use Rattle.turn_server.specs.Answers.{table_answer, answer_class, address_attribute, lifetime_attribute, allocation_attributes, no_ipv6, family_left, answer_content, software_attributes, answer_attributes};
+ghost use Rattle.turn_server.specs.Answers.{table_answer, answer_class, address_attribute, lifetime_attribute, allocation_attributes, no_ipv6, family_left, answer_content, software_attributes, answer_attributes, list_attribute};
 
 use crate::{Answer, socket_of};
 use stun_types::attribute::{
-    AttributeStaticType, AttributeType, ErrorCode, Software, XorMappedAddress,
+    AttributeStaticType, AttributeType, ErrorCode, Software, UnknownAttributes, XorMappedAddress,
 };
 use stun_types::message::{Message, StunWriteError, TransactionId};
 use stun_types::prelude::*;
@@ -98,6 +99,17 @@ fn push_software<B: MessageWrite>(attribute: &Software, write: &mut B) -> Result
 fn push_error<B: MessageWrite>(attribute: &ErrorCode, write: &mut B) -> Result<(), StunWriteError>
     ensures { Lengthens result (B.state write.old) (B.state write.new)
         (error_attribute (error_code attribute.now) (error_reason attribute.now) ∷ []) }
+{
+    add_one(attribute, write)
+}
+
+/// Adds an UNKNOWN-ATTRIBUTES.
+fn push_list<B: MessageWrite>(
+    attribute: &UnknownAttributes,
+    write: &mut B,
+) -> Result<(), StunWriteError>
+    ensures { Lengthens result (B.state write.old) (B.state write.new)
+        (list_attribute (listed attribute.now) ∷ []) }
 {
     add_one(attribute, write)
 }
@@ -251,4 +263,18 @@ pub(crate) fn add_refusal<B: MessageWrite>(
 {
     push_error(error, write)?;
     add_software(software, write)
+}
+
+/// Adds the attributes of a 420.
+pub(crate) fn add_unknown<B: MessageWrite>(
+    error: &ErrorCode,
+    list: &UnknownAttributes,
+    write: &mut B,
+) -> Result<(), StunWriteError>
+    ensures { Lengthens result (B.state write.old) (B.state write.new)
+        (error_attribute (error_code error.now) (error_reason error.now)
+        ∷ list_attribute (listed list.now) ∷ []) }
+{
+    push_error(error, write)?;
+    push_list(list, write)
 }

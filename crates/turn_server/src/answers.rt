@@ -27,7 +27,7 @@ use stun_types::prelude::*;
 use turn_table::Endpoint;
 
 /// The ERROR-CODE of a code, with its reason phrase.
-fn error_of(alloc: Global, code: u16) -> Result<ErrorCode, StunWriteError>
+pub(crate) fn error_of(alloc: Global, code: u16) -> Result<ErrorCode, StunWriteError>
     ensures error { IfOk result (IsError code (default_reason code)) }
     ensures fault { FailsFor (code_fault (refused code)) result }
 {

@@ -84,13 +84,38 @@ fn answer_by(reply: Reply) -> Answer
 ///
 /// # Examples
 ///
+/// From the first request to data both ways, with a socket that is bound to 203.0.113.1:50000.
+///
 /// ```
+/// use std::alloc::Global;
+/// use std::collections::BTreeMap;
 /// use std::net::SocketAddr;
-/// use stun_authentication::{Logins, NonceMaker, Policy, Refusal, SecurityFeatures};
-/// use stun_types::message::IntegrityKey;
-/// use turn_server::{Action, Site, Sockets, TurnServer, endpoint_of};
+/// use stun_authentication::{Challenge, Logins, NonceMaker, Policy, Refusal, Retry};
+/// use stun_authentication::{SecurityFeatures, answer_challenge, challenge_of, refuse_long_term};
+/// use stun_types::attribute::{PasswordAlgorithmValue, Realm};
+/// use stun_types::message::{IntegrityKey, LongTermCredentials, Message, MessageClass, MessageType};
+/// use stun_types::message::{MessageWriteVec, Method, StunWriteError, TransactionId};
+/// use stun_types::prelude::*;
+/// use turn_attrs::{RequestedTransport, XorPeerAddress, methods, write_data_head};
+/// use turn_server::{Action, Answer, Ready, Site, Sockets, TurnServer, endpoint_of, socket_of};
 /// use turn_table::peers::Peers;
 /// use turn_table::{FiveTuple, Limits};
+///
+/// // A client's request with an attribute, which answers a challenge.
+/// fn signed(
+///     alloc: Global,
+///     method: Method,
+///     id: u128,
+///     attribute: &dyn AttributeWrite,
+///     retry: &Retry<'_>,
+/// ) -> Result<Vec<u8>, StunWriteError> {
+///     let mtype = MessageType::from_class_method(MessageClass::Request, method);
+///     let vector = MessageWriteVec::new(alloc);
+///     let mut request = Message::builder(mtype, TransactionId::from(id), vector)?;
+///     request.add_attribute(attribute)?;
+///     answer_challenge(alloc, retry, "alice", "wonderland", false, &mut request)?;
+///     Ok(request.finish())
+/// }
 ///
 /// let limits = Limits {
 ///     allocations: 100,
@@ -99,7 +124,7 @@ fn answer_by(reply: Reply) -> Answer
 ///     channel_permits: false,
 ///     old_channels: false,
 /// };
-/// // (a program draws the two numbers)
+/// // (a program draws these two numbers, and the secret below)
 /// let mut server: TurnServer<16, 16> = TurnServer::new(alloc, limits, [1, 2])?;
 /// let client: SocketAddr = "192.0.2.1:32853".parse()?;
 /// let own: SocketAddr = "203.0.113.1:3478".parse()?;
@@ -108,24 +133,75 @@ fn answer_by(reply: Reply) -> Answer
 ///     server: endpoint_of(own),
 ///     transport: 17,
 /// };
+/// let relayed = endpoint_of("203.0.113.1:50000".parse()?);
+/// let ready = Ready { any: Some(relayed), even: Some(relayed) };
 /// let site = Site {
 ///     policy: Policy::default(),
 ///     realm: "example.org",
-///     sockets: Sockets { ipv4: None, ipv6: None },
+///     sockets: Sockets { ipv4: Some(ready), ipv6: None },
 /// };
 /// let secret = IntegrityKey::new(alloc, &[7; 32], None)?;
 /// let maker = NonceMaker::new(secret, SecurityFeatures::default(), 600)?;
-/// let (nonces, keys) = (maker.nonces(1, client, &[]), Logins::new(&[]));
+/// let (name, password) = (String::from_str(alloc, "alice")?, String::from_str(alloc, "wonderland")?);
+/// let users = [LongTermCredentials::new(name, password)];
+/// let (nonces, keys) = (maker.nonces(1, client, &[]), Logins::new(&users));
 /// let peers = Peers { denied: &[], allowed: &[], listening: &[own] };
+///
 /// // An Allocate request that isn't signed, after a second: `refuse_long_term` writes the 401.
 /// let request = b"\x00\x03\x00\x08\x21\x12\xA4\x42abcdefghijkl\x00\x19\x00\x04\x11\x00\x00\x00";
 /// let now = 1_000_000_000;
 /// let action =
 ///     server.on_client_datagram(alloc, now, &from, request, &site, &nonces, &keys, &peers)?;
 /// assert!(rt; matches!(action, Action::Refused(Refusal::Unauthenticated)));
-/// // So no socket has an allocation, and what a peer sends goes nowhere.
-/// let peer = endpoint_of("198.51.100.1:9".parse()?);
-/// assert!(rt; server.on_peer_datagram(now, 0, peer).is_none());
+/// let (realm, nonce) = (Realm::new(alloc, "example.org")?, maker.make(alloc, 1, &client)?);
+/// let challenge = Challenge::new(alloc, &realm, &nonce, &[])?;
+/// let (request, vector) = (Message::from_bytes(request)?, MessageWriteVec::new(alloc));
+/// let refusal = Refusal::Unauthenticated;
+/// let refused = refuse_long_term(alloc, &request, refusal, &challenge, vector)?.finish();
+///
+/// // The client answers it, and has an allocation: the socket is kept by its number.
+/// let refused = Message::from_bytes(&refused)?;
+/// let retry = challenge_of(&refused, &[PasswordAlgorithmValue::MD5], None, false)?;
+/// let request = signed(alloc, methods::ALLOCATE, 2, &RequestedTransport::new(17), &retry)?;
+/// let action =
+///     server.on_client_datagram(alloc, now, &from, &request, &site, &nonces, &keys, &peers)?;
+/// let Action::Answered { answer, took, .. } = action else {
+///     return Err("no answer")?;
+/// };
+/// assert_eq!(rt; answer, Answer::Allocated { relayed, lifetime: 600 });
+/// let number = took.ok_or("no allocation")?;
+/// let mut sockets = BTreeMap::new(alloc);
+/// assert!(rt; sockets.insert(number, "the socket at 203.0.113.1:50000").is_ok());
+///
+/// // A CreatePermission request: `write_answer` writes this response too.
+/// let peer: SocketAddr = "198.51.100.7:4000".parse()?;
+/// let permitted = XorPeerAddress::new(peer, TransactionId::from(3));
+/// let request = signed(alloc, methods::CREATE_PERMISSION, 3, &permitted, &retry)?;
+/// let action =
+///     server.on_client_datagram(alloc, now, &from, &request, &site, &nonces, &keys, &peers)?;
+/// assert!(rt; matches!(action, Action::Answered { answer: Answer::Done, took: None, .. }));
+///
+/// // A Send indication: its data goes to the peer, from that socket.
+/// let sent = b"\x00\x16\x00\x18\x21\x12\xA4\x42abcdefghijkl\
+///     \x00\x12\x00\x08\x00\x01\x2E\xB2\xE7\x21\xC0\x45\x00\x13\x00\x05hello\0\0\0";
+/// let action =
+///     server.on_client_datagram(alloc, now, &from, sent, &site, &nonces, &keys, &peers)?;
+/// let Action::ToPeer { relay, peer: to, data } = action else {
+///     return Err("no data")?;
+/// };
+/// assert!(rt; sockets.contains_key(&relay) && socket_of(to) == peer);
+/// assert_eq!(rt; data, b"hello".as_slice());
+///
+/// // The peer answers `hi`, at that socket: the client gets it in a Data indication.
+/// let to = server.on_peer_datagram(now, number, endpoint_of(peer)).ok_or("no client")?;
+/// assert!(rt; socket_of(to.tuple.client) == client && to.channel.is_none());
+/// let mut buffer = [0; 48 + 1500];
+/// buffer[48..50].copy_from_slice(b"hi");
+/// let (before, _) = buffer.split_at_mut(48);
+/// let head = write_data_head(TransactionId::from(4), peer, 2, 65507, before)?;
+/// let indication = b"\x00\x17\x00\x14\x21\x12\xA4\x42\0\0\0\0\0\0\0\0\0\0\0\x04\
+///     \x00\x12\x00\x08\x00\x01\x2E\xB2\xE7\x21\xC0\x45\x00\x13\x00\x02hi\0\0";
+/// assert_eq!(rt; &buffer[48 - head.length..50 + head.padding], indication.as_slice());
 /// ```
 #[derive(Drop)]
 pub struct TurnServer<const P: usize, const C: usize> {
@@ -285,8 +361,8 @@ impl<const P: usize, const C: usize> TurnServer<P, C> {
     /// `from` is the client, the address that its datagram came to, and the protocol between them, by
     /// numbers of the caller's choice: 17 for UDP and 6 for TCP, say. What a stream is cut into counts as
     /// datagrams (`stun_framing::MessageStream::carrying`). `site` says which sockets are ready. If
-    /// `took` of an [`Action::Answered`] is `Some(relay)`, the socket has this number from then on: the
-    /// caller passes it to [`TurnServer::on_peer_datagram`], until [`TurnServer::poll`] returns it.
+    /// `took` of an [`Action::Answered`] is `Some(number)`, the one with the relayed address has this
+    /// number from then on, until [`TurnServer::poll`] returns it.
     ///
     /// # Errors
     ///
@@ -326,7 +402,7 @@ impl<const P: usize, const C: usize> TurnServer<P, C> {
     }
 
     /// Returns the client that a peer's datagram goes to, on a channel or in a Data indication, by the
-    /// number of the socket that it came to (RFC 8656, sections 11.3 and 12.7).
+    /// number under which the socket is kept that it came to (RFC 8656, sections 11.3 and 12.7).
     /// `turn_attrs::write_channel_head` and `write_data_head` write what comes before the data.
     ///
     /// A Data indication has a transaction ID that the caller draws.
@@ -344,8 +420,8 @@ impl<const P: usize, const C: usize> TurnServer<P, C> {
     }
 
     /// Closes allocations that have ended, as many as `ended` has room for, and writes the numbers of
-    /// their sockets at its start. Returns how many: the caller closes these sockets. If that is less
-    /// than the length of `ended`, no allocation is left that has ended.
+    /// their sockets at its start. Returns how many: the caller closes the sockets that it keeps under
+    /// these numbers. If that is less than the length of `ended`, no allocation is left that has ended.
     ///
     /// Each call visits every allocation. One that has ended takes a place of the table until then, so
     /// call this once a second, say.

@@ -1,24 +1,55 @@
 //! The signed response to a request that shows types that aren't comprehended.
 
-ghost use Rattle.std.specs.Prelude.{◌≡◌, [], false, IfOk};
+ghost use Rattle.std.specs.Prelude.{◌≡◌, [], IfOk, IfErr};
 ghost use Rattle.stun_base.specs.MessageTypes.{class_of};
 ghost use Rattle.stun_base.specs.declared.message_class.MessageClass.TheVariants.{Request, Error as ErrorClass};
+ghost use Rattle.stun_attributes.specs.Unknown.{listed};
 ghost use Rattle.stun_grammar.specs.Adding.{Fits};
 ghost use Rattle.stun_grammar.specs.Headers.{type_field};
 ghost use Rattle.stun_keys.specs.Keys.{key_algorithm, key_bytes};
 ghost use Rattle.stun_types.specs.Message.{message_bytes};
-ghost use Rattle.stun_types.specs.Replies.{first_refusal};
+ghost use Rattle.stun_types.specs.Replies.{unknown_types};
 ghost use Rattle.stun_authentication.specs.Writing.{FailsFor};
-ghost use Rattle.turn_server.specs.Answers.{unknown_attributes, unknown_text, unknown_refusal};
-ghost use Rattle.turn_server.specs.Comprehended.{is_comprehended};
+ghost use Rattle.turn_server.specs.Answers.{unknown_attributes, unknown_text, list_fault, listing_refusal, unknown_refusal};
+ghost use Rattle.turn_server.specs.Comprehended.{comprehended};
 ghost use Rattle.turn_server.specs.Unfinished.{WritesUnfinished};
 
 use crate::COMPREHENDED;
-use std::alloc::Global;
+use crate::adding::add_unknown;
+use crate::answers::error_of;
+use std::alloc::{AllocError, Global};
 use stun_authentication::Accepted;
-use stun_types::attribute::{AttributeStaticType, Fingerprint};
-use stun_types::message::{Message, StunWriteError};
+use stun_types::attribute::{
+    AttributeStaticType, AttributeType, ErrorCode, Fingerprint, UnknownAttributes,
+};
+use stun_types::message::{Message, StunWriteError, UnknownTypes};
 use stun_types::prelude::*;
+
+/// The types that a request shows and that aren't comprehended.
+fn unknown_types_of(
+    alloc: Global,
+    request: &Message<'_>,
+) -> Result<Vec<AttributeType>, StunWriteError>
+    ensures found { IfOk result (λ types. types.items
+        ≡ unknown_types comprehended (message_bytes request.now)) }
+    ensures err { IfErr result (λ e. e ≡ StunWriteError.OutOfMemory) }
+{
+    let mut types = Vec::new(alloc);
+    for atype in UnknownTypes::new(request.as_bytes(), &COMPREHENDED) {
+        types.push(atype).map_err(AllocError::from)?;
+    }
+    Ok(types)
+}
+
+/// The UNKNOWN-ATTRIBUTES with the types that a request shows and that aren't comprehended.
+fn list_of(alloc: Global, request: &Message<'_>) -> Result<UnknownAttributes, StunWriteError>
+    ensures listed { IfOk result (λ list. listed list
+        ≡ unknown_types comprehended (message_bytes request.now)) }
+    ensures fault { FailsFor (list_fault (message_bytes request.now)) result }
+{
+    let types = unknown_types_of(alloc, request)?;
+    UnknownAttributes::new(alloc, &types)
+}
 
 /// Writes the 420, but for its end.
 fn write_listed<B: MessageWrite + Drop>(
@@ -27,34 +58,36 @@ fn write_listed<B: MessageWrite + Drop>(
     write: B,
 ) -> Result<B, StunWriteError>
     requires request { class_of (type_field (message_bytes request.now)) ≡ Request }
-    requires unknown { is_comprehended (message_bytes request.now) ≡ false }
     requires empty { (B.state write).bytes ≡ [] }
     requires room { Fits (B.state write).greatest 20 }
-    ensures { let r = message_bytes request.now in let attributes = unknown_attributes r in
-        WritesUnfinished (λ w. B.state w) result (B.state write).greatest ErrorClass r attributes
-        (first_refusal (B.state write).greatest [] attributes) }
+    ensures { let r = message_bytes request.now in
+        WritesUnfinished (λ w. B.state w) result (B.state write).greatest ErrorClass r
+        (unknown_attributes r) (listing_refusal (B.state write).greatest r) }
 {
-    match Message::check_attribute_lists(alloc, request, &[&COMPREHENDED], &[], write)? {
-        Some(write) => Ok(write),
-        None => unreachable!(),
-    }
+    let error = error_of(alloc, ErrorCode::UNKNOWN_ATTRIBUTE)?;
+    let list = list_of(alloc, request)?;
+    let mut write = Message::builder_error(request, write)?;
+    add_unknown(&error, &list, &mut write)?;
+    Ok(write)
 }
 
 /// Writes the response to a request that shows types below 0x8000 that aren't comprehended, as
-/// [`Judged::Unknown`](crate::Judged::Unknown) reports it: a 420 with an UNKNOWN-ATTRIBUTES that lists
-/// them, in order and as often as shown (RFC 8489, section 6.3.1), as
-/// [`Message::check_attribute_lists`] writes it, with the integrity attribute by the user's key and
-/// [`Accepted::reply_algorithm`] (RFC 8489, section 9.2.4), and with a FINGERPRINT if the request has one.
+/// [`Judged::Unknown`](crate::Judged::Unknown) reports it: an ERROR-CODE 420 with the reason phrase of
+/// [`ErrorCode::default_reason_for_code`], and an UNKNOWN-ATTRIBUTES that lists them, in order and as
+/// often as shown (RFC 8489, section 6.3.1); then the integrity attribute by the user's key and
+/// [`Accepted::reply_algorithm`] (RFC 8489, section 9.2.4), and a FINGERPRINT if the request has one. It
+/// has no SOFTWARE, as the 400, 401 and 438 have none.
 ///
 /// # Requires
 ///
-/// `request` is a request and shows such a type, as `UnknownTypes::new` with
-/// [`COMPREHENDED`](crate::COMPREHENDED) tests, and the writer is as for `Message::builder`.
+/// `request` is a request, and the writer is as for `Message::builder`.
 ///
 /// # Errors
 ///
-/// `OutOfMemory` if an allocation failed. Else the first of these that applies:
+/// `OutOfMemory` if an allocation failed: the list takes memory, the ERROR-CODE, and the writer. Else the
+/// first of these that applies:
 ///
+/// - `TooLarge { expected: 32767, actual }` if more types would be listed, which no message shows;
 /// - `TooSmall { expected, actual }` if the message would be longer with an attribute than the
 ///   writer takes: that length, and [`MessageWrite::max_size`]; and
 ///   `TooLarge { expected: 65555, actual }` if it would be longer than a message may be. The first
@@ -89,7 +122,6 @@ pub fn write_unknown<B: MessageWrite + Drop>(
     write: B,
 ) -> Result<B, StunWriteError>
     requires request { class_of (type_field (message_bytes request.now)) ≡ Request }
-    requires unknown { is_comprehended (message_bytes request.now) ≡ false }
     requires empty { (B.state write).bytes ≡ [] }
     requires room { Fits (B.state write).greatest 20 }
     ensures text { let r = message_bytes request.now in

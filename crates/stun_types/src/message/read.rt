@@ -9,7 +9,7 @@ use crate::message::{
     MessageClass, MessageHeader, MessageType, Method, StunParseError, TransactionId,
 };
 use crate::reading::{IntegrityOffsets, MessageAttributesIter, check_message, iter_framed};
-use crate::show::print_message;
+use crate::show::{display, print_message};
 use crate::{PrintText, TextSink, TextTooLong};
 use std::fmt;
 use stun_base::read_header;
@@ -323,15 +323,23 @@ impl Message<'_> {
 /// The class, the method, the transaction ID, and the attributes that the message shows, each as it
 /// is printed by itself: `Message(class: Request, method: 1(0x1: BINDING), transaction: 0x7392,
 /// attributes: [29(0x1d: PASSWORD-ALGORITHM): SHA256])`. It walks the attributes once, and
-/// takes no memory. The contract promises this text for a plain `{}` alone.
+/// takes no memory. It fails only if the formatter refuses a piece of the text, after it took those
+/// before; then nothing more is written. The contract promises this for a plain `{}` alone.
 impl fmt::Display for Message<'_> {
-    ghost use Rattle.std.specs.Prelude.{Some};
+    ghost use Rattle.std.specs.Prelude.{OnErr, Some};
+    ghost use Rattle.std.specs.Fmt.{WritesOnOk};
     ghost use Rattle.stun_types.specs.PrintedMessages.{message_text};
     ghost use Rattle.stun_types.specs.Message.{message_bytes};
+    ghost use Rattle.stun_types.specs.Formatters.{StopsAt};
 
     ghost output = { λ message. Some (message_text (message_bytes message)) };
 
-    fn fmt<W: fmt::Write>(&self, f: &mut fmt::Formatter<W>) -> fmt::Result {
-        self.print(f)
+    fn fmt<W: fmt::Write>(&self, f: &mut fmt::Formatter<W>) -> fmt::Result
+        ensures writes { WritesOnOk W.write_str_gives f.old result
+            (message_text (message_bytes self.now)) f.new }
+        ensures stops { OnErr result (StopsAt W.write_str_gives f.old
+            (message_text (message_bytes self.now)) f.new) }
+    {
+        display(self, f)
     }
 }
