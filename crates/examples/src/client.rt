@@ -4,11 +4,11 @@
 use rand::Rng;
 use std::alloc::Global;
 use std::net::SocketAddr;
-use stun_types::attribute::{Software, XorMappedAddress};
+use stun_types::attribute::{KNOWN, Software, XorMappedAddress};
 use stun_types::message::{
     BINDING, IntegrityAlgorithm, Message, MessageClass, MessageIntegrityCredentials, MessageType,
     MessageWriteMutSlice, MessageWriteVec, ShortTermCredentials, StunParseError, StunWriteError,
-    TransactionId,
+    TransactionId, UnknownTypes,
 };
 use stun_types::prelude::*;
 
@@ -20,7 +20,9 @@ pub fn request<R: Rng>(alloc: Global, rng: &mut R) -> Result<Vec<u8>, StunWriteE
     Ok(message.finish())
 }
 
-/// The address from which the server saw the request come, as its response reports it.
+/// The address from which the server saw the request come, as its response reports it. The result is
+/// `None` for other messages, and for a response with an attribute that must be understood and isn't
+/// (RFC 8489, section 6.3.3).
 pub fn mapped_address(
     alloc: Global,
     request: &Message<'_>,
@@ -28,6 +30,9 @@ pub fn mapped_address(
 ) -> Result<Option<SocketAddr>, StunParseError> {
     let response = Message::from_bytes(bytes)?;
     if !response.answers(request) || !response.has_class(MessageClass::Success) {
+        return Ok(None);
+    }
+    if UnknownTypes::new(bytes, &KNOWN).next().is_some() {
         return Ok(None);
     }
     let mapped = response.attribute::<XorMappedAddress>(alloc)?;

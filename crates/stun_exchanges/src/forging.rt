@@ -1,16 +1,17 @@
 //! Laws of who sent a message. Each function does nothing: its contract is the law.
 
-ghost use Rattle.std.specs.Prelude.{◌≡◌, List, ℕ, Option, Some, None, Ok, Err};
+ghost use Rattle.std.specs.Prelude.{◌≡◌, List, length, take, ℕ, Option, Some, None, Ok, Err};
 ghost use Rattle.std.specs.List.{AllByRecursion};
 ghost use Rattle.stun_grammar.specs.declared.error.StunParseError.{StunParseError};
 ghost use Rattle.stun_grammar.specs.declared.error.ValidateError.{ValidateError};
 ghost use Rattle.stun_grammar.specs.declared.integrity_algorithm.IntegrityAlgorithm.{IntegrityAlgorithm};
 ghost use Rattle.stun_grammar.specs.AttributeTypes.{MESSAGE_INTEGRITY, MESSAGE_INTEGRITY_SHA256};
+ghost use Rattle.stun_grammar.specs.Hmac.{hmac};
 ghost use Rattle.stun_grammar.specs.Numbers.{IsBytes};
 ghost use Rattle.stun_grammar.specs.Sending.{Sent, IsEncodableSent};
 ghost use Rattle.stun_grammar.specs.Verdicts.{is_checked_type, verdict};
 ghost use Rattle.stun_types.specs.LookingUp.{nth};
-ghost use Rattle.stun_exchanges.specs.Forging.{IsForgedOrSent};
+ghost use Rattle.stun_exchanges.specs.Forging.{Claim, IsTrueOf, IsForgedOrSent};
 
 use stun_types::walks_from_there;
 
@@ -23,6 +24,13 @@ pub fn forgery_is_explicit()
         (d : List ℕ) (a : IntegrityAlgorithm) (sent : List Sent)
         → IsBytes d → AllByRecursion IsEncodableSent sent
         → verdict (is_checked_type made_for) key d ≡ Ok a → IsForgedOrSent made_for sent key d a }
+{}
+
+/// The first sixteen bytes of an HMAC are enough for a claim to be true, the fewest that a value of
+/// MESSAGE-INTEGRITY-SHA256 may have (RFC 8489, section 14.6).
+pub fn sixteen_bytes_are_enough()
+    ensures { (key : List ℕ) (claim : Claim) → length claim.value ≡ 16
+        → claim.value ≡ take 16 (hmac claim.algorithm key claim.covered) → IsTrueOf key claim }
 {}
 
 /// With a key that was made for HMAC-SHA256 no message validates that shows no

@@ -2,10 +2,11 @@
 
 ghost use Rattle.std.specs.Prelude.{◌≡◌, ◌≢◌, List, [], ℕ};
 ghost use Rattle.std.specs.declared.net.socket_addr.SocketAddr.{SocketAddr};
+ghost use Rattle.std.specs.declared.net.socket_addr.SocketAddrV6.{SocketAddrV6};
 ghost use Rattle.stun_grammar.specs.Numbers.{IsBytes};
 ghost use Rattle.stun_values.specs.Addresses.{IsInRange};
 ghost use Rattle.stun_types.specs.Replies.{unknown_types};
-ghost use Rattle.stun_exchanges.specs.Learning.{IsBindingRequest, Learns, LearnsError};
+ghost use Rattle.stun_exchanges.specs.Learning.{IsBindingRequest, Learns, LearnsError, without_flow};
 
 use stun_base::one_message_type;
 use stun_types::message::response_answers;
@@ -35,3 +36,9 @@ pub fn client_learns_the_error()
     response_answers();
     shown_is_found();
 }
+
+/// What a client learns of an address of IPv6 is its octets and its port: flow info and scope ID are 0.
+pub fn learned_addresses_are_plain()
+    ensures { (a : SocketAddrV6) → without_flow (SocketAddr.V6 a)
+        ≡ SocketAddr.V6 (record { ip = a.ip; port = a.port; flowinfo = 0; scope_id = 0 }) }
+{}

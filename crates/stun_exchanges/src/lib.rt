@@ -6,8 +6,8 @@ mod forging;
 mod laws;
 mod logins;
 
-pub use forging::{forgery_is_explicit, sha256_is_not_cut_down};
-pub use laws::{client_learns_its_address, client_learns_the_error};
+pub use forging::{forgery_is_explicit, sha256_is_not_cut_down, sixteen_bytes_are_enough};
+pub use laws::{client_learns_its_address, client_learns_the_error, learned_addresses_are_plain};
 pub use logins::{
     challenge_is_read, login_is_accepted, logins_have_keys, made_nonces_are_offered,
     premises_are_met, short_term_login_is_accepted,
