@@ -88,10 +88,9 @@ fn attribute_value(
     let atype = attribute.get_type();
     let bytes = attribute.value().as_bytes();
     let (number, octets) = (atype.value(), bytes.len());
-    let name = name_of(alloc, atype)?;
-    let value = reading_value(alloc, read_as(atype, id, bytes))?;
     json!(in alloc; {
-        "name": name, "octets": octets, "offset": offset, "type": number, "value": value
+        "name": (name_of(alloc, atype)?), "octets": octets, "offset": offset, "type": number,
+        "value": (reading_value(alloc, read_as(atype, id, bytes))?)
     })
 }
 
@@ -138,20 +137,19 @@ fn validated_value(alloc: Global, facts: &Facts) -> Result<Value, AllocError> {
 
 /// The object of a message.
 fn message_value(alloc: Global, message: &Message<'_>, facts: &Facts) -> Result<Value, AllocError> {
-    let attributes = attribute_values(alloc, message)?;
-    let id = hexadecimal(alloc, &message.transaction_id().to_bytes())?;
-    let class = class_words(message.class());
-    let (method, number) = (method_name(message.method()), message.method().value());
+    let (class, method) = (class_words(message.class()), message.method());
+    let (name, number) = (method_name(method), method.value());
     let octets = message.as_bytes().len();
     let (fingerprint, ignored) = (facts.fingerprint, facts.ignored);
     let malformed = facts.malformed;
-    let (sha1, sha256) = (Value::from(facts.sha1), Value::from(facts.sha256));
-    let validated = validated_value(alloc, facts)?;
     json!(in alloc; {
-        "attributes": attributes, "class": class, "fingerprint": fingerprint, "id": id,
-        "ignored_octets": ignored, "integrity": {"sha1": sha1, "sha256": sha256},
-        "malformed": malformed, "method": method, "method_number": number, "octets": octets,
-        "validated": validated
+        "attributes": (attribute_values(alloc, message)?), "class": class,
+        "fingerprint": fingerprint,
+        "id": (hexadecimal(alloc, &message.transaction_id().to_bytes())?),
+        "ignored_octets": ignored,
+        "integrity": {"sha1": (Value::from(facts.sha1)), "sha256": (Value::from(facts.sha256))},
+        "malformed": malformed, "method": name, "method_number": number, "octets": octets,
+        "validated": (validated_value(alloc, facts)?)
     })
 }
 
@@ -189,14 +187,13 @@ fn header_value(alloc: Global, bytes: &[u8]) -> Result<Value, AllocError> {
     let Ok(header) = MessageHeader::from_bytes(bytes) else {
         return Ok(Value::Null);
     };
-    let id = hexadecimal(alloc, &header.transaction_id().to_bytes())?;
     let class = class_words(header.get_type().class());
     let method = header.get_type().method();
     let (name, number) = (method_name(method), method.value());
     let (field, octets) = (header.data_length(), bytes.len());
     json!(in alloc; {
-        "class": class, "id": id, "length_field": field, "method": name, "method_number": number,
-        "octets": octets
+        "class": class, "id": (hexadecimal(alloc, &header.transaction_id().to_bytes())?),
+        "length_field": field, "method": name, "method_number": number, "octets": octets
     })
 }
 
@@ -211,9 +208,10 @@ fn overrun_value(alloc: Global, overrun: Option<Overrun>) -> Result<Value, Alloc
             "left": left, "name": null, "octets": null, "offset": offset, "type": null
         });
     };
-    let (name, number) = (name_of(alloc, atype)?, atype.value());
+    let number = atype.value();
     json!(in alloc; {
-        "left": left, "name": name, "octets": octets, "offset": offset, "type": number
+        "left": left, "name": (name_of(alloc, atype)?), "octets": octets, "offset": offset,
+        "type": number
     })
 }
 
