@@ -1,5 +1,6 @@
 /* The functions of stun_bench.h by way of c/stun_types.h: what a C program pays for the same work. It lacks those
-   for which that header has no call (not_there.c). */
+   for which that header has no call (not_there.c). With -DOWN_HMACS the HMACs of messages are those of a file that is
+   compiled with it, such as c/examples/hmac_nettle.c. */
 #include "stun_bench.h"
 #include "../c/stun_types.h"
 #include <stdlib.h>
@@ -62,6 +63,51 @@ static stun_types_key short_key(const uint8_t *password, size_t password_length)
     return key;
 }
 
+/* A ready key, and what receives, validates and signs with it. */
+#ifndef OWN_HMACS
+typedef stun_types_key ready_key;
+
+static ready_key *make_ready(const uint8_t *password, size_t password_length) {
+    ready_key *key = malloc(sizeof *key);
+    if (key == NULL) abort();
+    *key = short_key(password, password_length);
+    return key;
+}
+
+static void free_ready(ready_key *key) {
+    stun_types_key_free(key);
+    free(key);
+}
+
+static bool is_message(const uint8_t *message, size_t length) {
+    return stun_types_parse(message, length).code == STUN_TYPES_OK;
+}
+
+#define validate stun_types_validate
+#define add_integrity stun_types_add_integrity
+#else
+#include "../c/examples/own_hmacs.h"
+
+typedef own_key ready_key;
+
+static ready_key *make_ready(const uint8_t *password, size_t password_length) {
+    ready_key *key = own_key_new(password, password_length);
+    if (key == NULL) abort();
+    return key;
+}
+
+static void free_ready(ready_key *key) { own_key_free(key); }
+
+/* (validating parses the message before it computes the HMAC) */
+static bool is_message(const uint8_t *message, size_t length) {
+    (void)message, (void)length;
+    return true;
+}
+
+#define validate own_validate
+#define add_integrity own_add_integrity
+#endif
+
 /* Frees two keys, and returns whether they had the same bytes. */
 static uint64_t were_equal(stun_types_key *one, stun_types_key *other) {
     uint8_t bytes[2][64];
@@ -91,13 +137,13 @@ uint64_t stun_bench_long_key(const uint8_t *user, size_t user_length, const uint
 
 uint64_t stun_bench_validate(const uint8_t *message, size_t length, const uint8_t *password, size_t password_length,
                              uint64_t rounds) {
-    stun_types_key key = short_key(password, password_length);
+    ready_key *key = make_ready(password, password_length);
     uint64_t sum = 0;
     while (rounds--) {
         stun_types_validated validated;
-        sum += verdict(stun_types_validate(message, length, &key, &validated), &validated);
+        sum += verdict(validate(message, length, key, &validated), &validated);
     }
-    stun_types_key_free(&key);
+    free_ready(key);
     return sum;
 }
 
@@ -115,21 +161,21 @@ uint64_t stun_bench_validate_credentials(const uint8_t *message, size_t length, 
 
 uint64_t stun_bench_receive(const uint8_t *message, size_t length, const uint8_t *password, size_t password_length,
                             uint64_t rounds) {
-    stun_types_key key = short_key(password, password_length);
+    ready_key *key = make_ready(password, password_length);
     uint64_t sum = 0;
     while (rounds--) {
         stun_types_validated validated;
-        if (stun_types_parse(message, length).code != STUN_TYPES_OK) continue;
+        if (!is_message(message, length)) continue;
         sum += offset_of(message, length, STUN_TYPES_ATTRIBUTE_USERNAME) << 8;
         sum += offset_of(message, length, STUN_TYPES_ATTRIBUTE_PRIORITY) << 24;
-        sum += verdict(stun_types_validate(message, length, &key, &validated), &validated);
+        sum += verdict(validate(message, length, key, &validated), &validated);
     }
-    stun_types_key_free(&key);
+    free_ready(key);
     return sum;
 }
 
 /* Writes the check, signed if there is a key, and returns how many bytes it has, or 0. */
-static size_t write_check(const uint8_t *user, size_t user_length, stun_types_key *key, stun_types_integrity algorithm,
+static size_t write_check(const uint8_t *user, size_t user_length, const ready_key *key, stun_types_integrity algorithm,
                           uint8_t *room, size_t size) {
     static const uint8_t priority[4] = {0x6E, 0x00, 0x01, 0xFF};
     static const uint8_t controlled[8] = {0x93, 0x2F, 0xF9, 0xB1, 0x51, 0x26, 0x3B, 0x36};
@@ -140,7 +186,7 @@ static size_t write_check(const uint8_t *user, size_t user_length, stun_types_ke
         || stun_types_add(room, size, &written, STUN_TYPES_ATTRIBUTE_PRIORITY, priority, sizeof priority).code
         || stun_types_add(room, size, &written, STUN_TYPES_ATTRIBUTE_ICE_CONTROLLED, controlled, sizeof controlled).code)
         return 0;
-    if (key && (stun_types_add_integrity(room, size, &written, key, algorithm).code
+    if (key && (add_integrity(room, size, &written, key, algorithm).code
                 || stun_types_add_fingerprint(room, size, &written).code))
         return 0;
     return written;
@@ -152,14 +198,14 @@ static uint64_t written_answer(const uint8_t *room, size_t length) {
 
 uint64_t stun_bench_write_slice(const uint8_t *user, size_t user_length, const uint8_t *password, size_t password_length,
                                 uint32_t algorithm, uint8_t *destination, size_t destination_length, uint64_t rounds) {
-    stun_types_key key = short_key(password, password_length);
+    ready_key *key = make_ready(password, password_length);
     stun_types_integrity attribute = algorithm == 1 ? STUN_TYPES_INTEGRITY_SHA1 : STUN_TYPES_INTEGRITY_SHA256;
     uint64_t sum = 0;
     while (rounds--) {
-        size_t length = write_check(user, user_length, &key, attribute, destination, destination_length);
+        size_t length = write_check(user, user_length, key, attribute, destination, destination_length);
         sum += written_answer(destination, length);
     }
-    stun_types_key_free(&key);
+    free_ready(key);
     return sum;
 }
 

@@ -50,6 +50,8 @@ TYPES = {
     "hash": "Hash",
     "policy": "CPolicy",
     "validated": "Validated",
+    "covered": "CCovered",
+    "hmac": "CHmac",
     "authentication": "CAuthenticated",
     "asked": "CAsked",
     "cookie": "Cookie",

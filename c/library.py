@@ -26,6 +26,7 @@ from checks import archives
 # What a refused call leaves as zeros, which permit nothing: verdicts, and what these calls write.
 VERDICTS = {
     "validated",
+    "covered",
     "authentication",
     "action",
     "received",

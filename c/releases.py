@@ -92,8 +92,9 @@ def release_twice(name, given, folder):
 def check_content(wrong, root, kit):
     """The files of an unpacked release, their checksums, and what its text names."""
     documents = root / "share/doc/stun_types"
-    examples = [f"examples/{it.name}" for it in sorted((HERE / "examples").glob("messages.*"))]
-    guides = [f"guide/{it}.md" for it in ("C", "PROGRAMS", "STUN-SERVER", "TROUBLESHOOTING")]
+    shown = (it for kind in ("messages.*", "own_hmacs.h", "hmac_*.c", "ice_*", "addresses.h") for it in (HERE / "examples").glob(kind))
+    examples = [f"examples/{it.name}" for it in sorted(shown)]
+    guides = [f"guide/{it}.md" for it in ("C", "HMACS", "PROGRAMS", "STUN-SERVER", "TROUBLESHOOTING")]
     more = ["RELEASE.txt", "SHA256SUMS", "uninstall", "stun-server.conf", "stun-server.service",
             "stunnel.conf", "haproxy.cfg"]
     more = [f"share/doc/stun_types/{it}" for it in [*more, *examples, *guides]]
@@ -207,6 +208,7 @@ def use_release(compiler, root, folder):
     source = root / "share/doc/stun_types/examples"
     environment = {**os.environ, "PATH": path, "LD_LIBRARY_PATH": str(root / "lib")}
     environment["PKG_CONFIG_PATH"] = str(root / "lib/pkgconfig")
+    environment["GOCACHE"] = str(folder / "go")  # a cached package is linked with the folder that pkg-config named then
     flags = pc_flags(root)
     cc = shutil.which(compiler[0], path=path)
     cxx = next((it for it in ("c++", "g++", "clang++") if shutil.which(it, path=path)), None)

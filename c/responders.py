@@ -33,13 +33,13 @@ def checksum(covered):
     return struct.pack("!I", binascii.crc32(covered) ^ 0x5354554E)
 
 
-def signed(kind, number, attributes, password, integrity=INTEGRITY):
-    """A message with an HMAC, unless the password is None, and a FINGERPRINT."""
+def signed(kind, number, attributes, password, integrity=INTEGRITY, cut=None):
+    """A message with an HMAC, which may be cut, unless the password is None, and a FINGERPRINT."""
     digest = hashlib.sha1 if integrity == INTEGRITY else hashlib.sha256
     whole = counted(struct.pack("!HH", kind, 0) + REQUEST[4:] + number.to_bytes(12, "big") + attributes, 0)
     if password is not None:
-        covered = counted(whole, 4 + digest().digest_size)
-        whole = covered + attribute(integrity, hmac.new(password, covered, digest).digest())
+        covered = counted(whole, 4 + (cut or digest().digest_size))
+        whole = covered + attribute(integrity, hmac.new(password, covered, digest).digest()[:cut])
     whole = counted(whole, 8)
     return whole + attribute(FINGERPRINT, checksum(whole))
 

@@ -13,6 +13,7 @@ TOP = HERE.parent
 ARCHIVE = TOP / "crates/stun_types_c/out/libstun_types_c.a"
 REQUEST = bytes.fromhex("000100002112A442")  # and a transaction ID
 PATIENCE = 20  # seconds, for what takes a moment on an idle machine
+SANITIZED = ["-fsanitize=address,undefined", "-fno-sanitize-recover=all", "-g"]
 
 passed = failed = 0
 counting = threading.Lock()  # of steps that run at once
@@ -84,6 +85,13 @@ def build(compiler, *words):
     command = [compiler, "-O2", "-I", HERE, *words]
     status, out, told = run(list(map(str, command)), 300)
     check(status == 0, (out + told)[:2000])
+
+
+def has_sanitizers(compiler, folder):
+    """Whether the compiler has AddressSanitizer, which finds leaks too, and UndefinedBehaviorSanitizer."""
+    (folder / "empty.c").write_text("int main(void) { return 0; }\n")
+    words = [folder / "empty.c", *SANITIZED, "-o", folder / "empty"]
+    return run([compiler, *map(str, words)], 60)[0] == 0
 
 
 def client_sources(name):

@@ -20,9 +20,10 @@
  * - No zero permits anything. A verdict is a struct of type stun_types_validated,
  *   stun_types_authentication, stun_types_action, stun_types_received, stun_types_turn_action or
  *   stun_types_turn_delivery: a call that fails fills it with zeros, which say that nothing is
- *   decided or done; of stun_types_turn_client see there. stun_types_transaction_begin does the same
- *   with its transaction. A stun_types_policy of zeros lets both algorithms count, as RFC 8489 does.
- *   If an argument of an enumeration has no meaning for 0, 0 is BAD_ARGUMENT.
+ *   decided or done; of stun_types_turn_client see there. stun_types_transaction_begin zeroes its
+ *   transaction likewise, and the two calls that report a stun_types_covered zero it. A
+ *   stun_types_policy of zeros lets both algorithms count, as RFC 8489 does. If an argument of an
+ *   enumeration has no meaning for 0, 0 is BAD_ARGUMENT.
  * - A password or a key of no bytes is BAD_ARGUMENT: anybody can sign with it.
  * - Arguments are tested. Only a key and a TURN server have to be what the library made (see Keys).
  * - The layout of the structs is part of the ABI. `reserved` is for fields of later versions: it is 0
@@ -452,10 +453,11 @@ stun_types_answer stun_types_print(const uint8_t *bytes, size_t length, char *te
 /* ---- Keys ------------------------------------------------------------------------------------- */
 
 /* A key of an HMAC, on the heap. It begins as STUN_TYPES_KEY_INIT, is made by one of the calls
-   below, which free what it held before, and ended by stun_types_key_free. C neither reads nor
-   writes nor copies its fields. A struct holds a key only if its second word is a mark that the library
-   sets: one of zeros, or of another byte that is repeated, holds none. Nothing is promised of bytes that
-   were a key's before, so begin each key.
+   below, which free what it held before, and ended by stun_types_key_free. It keeps what its HMACs
+   begin with, by each algorithm that it serves: so make a key once, and use it for many messages. C
+   neither reads nor writes nor copies its fields. A struct holds a key only if its second word is a
+   mark that the library sets: one of zeros, or of another byte that is repeated, holds none.
+   Nothing is promised of bytes that were a key's before, so begin each key.
    The calls that take it as const stun_types_key * only read it: they may run at once, in as many
    threads as there are. A call that makes or frees it has it alone: C orders such a call before and
    after all others with this key, on other threads by a lock, a join or the start of a thread. */
@@ -595,6 +597,45 @@ stun_types_answer stun_types_validate_long_term(const uint8_t *bytes, size_t len
                                                 const void *password, size_t password_length,
                                                 stun_types_validated *validated);
 
+/* The bytes that an integrity attribute covers, for a program that computes HMACs with its own code: by
+   the processor's instructions, in a validated module (FIPS 140), or in hardware that keeps the key.
+   They are the four of first (the type and a length field, big-endian), and then length - 4 bytes of the
+   message from its offset 4. Only the length field may differ from the message's: it counts through the
+   end of the attribute. */
+typedef struct {
+    stun_types_integrity algorithm; /* of the HMAC */
+    uint8_t first[4];
+    uint64_t length; /* of all of them: at least 20, or 0 if the call failed */
+} stun_types_covered;
+
+/* An HMAC that the program computed: 20 bytes by SHA-1 (the other 12 aren't read), or 32 by SHA-256, even
+   if the attribute's value is truncated. */
+typedef struct {
+    stun_types_integrity algorithm;
+    uint8_t bytes[32];
+} stun_types_hmac;
+
+/* stun_types_validate in two halves, between which the program computes the HMAC. The first reports the
+   bytes that it is computed over, and by which algorithm: those that the last integrity attribute of the
+   message covers or, if an algorithm is given, the attribute of that algorithm. The second compares the
+   HMAC with that attribute, and returns what stun_types_validate does with the key, made for the
+   algorithm: look at validated->hmac_length, and at validated->algorithm. Pass it the same bytes and
+   algorithm: the HMAC isn't computed again, so a message that somebody changes in between may validate
+   although nobody signed it; copy one from shared memory first. Nothing is kept or allocated.
+   The errors of stun_types_parse. BAD_ARGUMENT: the algorithm is neither of the two, nor
+   STUN_TYPES_INTEGRITY_ANY; or the HMAC's is neither of the two. MISSING_ATTRIBUTE, always of type
+   MESSAGE-INTEGRITY: the message has no integrity attribute of that algorithm, or of either. TRUNCATED,
+   TOO_LARGE, INVALID_DATA: it has a length that its type doesn't allow. Only the second half returns
+   INTEGRITY_FAILED: the HMAC isn't the attribute's, or is by the other algorithm. */
+STUN_TYPES_NODISCARD STUN_TYPES_NONNULL((4))
+stun_types_answer stun_types_covered_text(const uint8_t *bytes, size_t length,
+                                          stun_types_integrity algorithm, stun_types_covered *covered);
+STUN_TYPES_NODISCARD STUN_TYPES_NONNULL((4, 5))
+stun_types_answer stun_types_validate_with_hmac(const uint8_t *bytes, size_t length,
+                                                stun_types_integrity algorithm,
+                                                const stun_types_hmac *hmac,
+                                                stun_types_validated *validated);
+
 /* ---- Writing ---------------------------------------------------------------------------------- */
 
 /* A message is written step by step into a slice of the caller's, room of size bytes. *written is
@@ -696,6 +737,23 @@ stun_types_answer stun_types_add_unknown_types(uint8_t *room, size_t size, size_
 STUN_TYPES_NODISCARD STUN_TYPES_NONNULL((3, 4))
 stun_types_answer stun_types_add_integrity(uint8_t *room, size_t size, size_t *written,
                                            const stun_types_key *key, stun_types_integrity algorithm);
+
+/* The same in two halves, between which the program computes the HMAC. The first reports the bytes that
+   it is computed over: those that the attribute covers if it is added next. It writes nothing else, and is
+   refused as an add is: BAD_ARGUMENT for what is there or for the algorithm (STUN_TYPES_INTEGRITY_ANY is
+   none), EXISTS, TOO_SMALL, TOO_LARGE. The second adds the attribute. BAD_ARGUMENT: what is there; the
+   algorithm of the HMAC is neither of the two; or isn't covered->algorithm, or *covered no longer fits the
+   message, since something was added, or one of another type or length was begun. Then EXISTS, TOO_SMALL,
+   TOO_LARGE. The bytes themselves aren't compared: if the program writes into the message in between, or
+   begins one of the same type and length, the HMAC that is added is wrong. */
+STUN_TYPES_NODISCARD STUN_TYPES_NONNULL((5))
+stun_types_answer stun_types_next_covered_text(const uint8_t *room, size_t size, size_t written,
+                                               stun_types_integrity algorithm,
+                                               stun_types_covered *covered);
+STUN_TYPES_NODISCARD STUN_TYPES_NONNULL((3, 4, 5))
+stun_types_answer stun_types_add_hmac(uint8_t *room, size_t size, size_t *written,
+                                      const stun_types_covered *covered,
+                                      const stun_types_hmac *hmac);
 
 /* Ends the message with a FINGERPRINT, the CRC-32 of what is written, XORed with 0x5354554E. */
 STUN_TYPES_NODISCARD STUN_TYPES_NONNULL((3))
@@ -1415,6 +1473,13 @@ STUN_TYPES_LAYOUT(validated_size, sizeof(stun_types_validated) == 16);
 STUN_TYPES_LAYOUT(validated_algorithm, offsetof(stun_types_validated, algorithm) == 0);
 STUN_TYPES_LAYOUT(validated_hmac_length, offsetof(stun_types_validated, hmac_length) == 4);
 STUN_TYPES_LAYOUT(validated_reserved, offsetof(stun_types_validated, reserved) == 8);
+STUN_TYPES_LAYOUT(covered_size, sizeof(stun_types_covered) == 16);
+STUN_TYPES_LAYOUT(covered_algorithm, offsetof(stun_types_covered, algorithm) == 0);
+STUN_TYPES_LAYOUT(covered_first, offsetof(stun_types_covered, first) == 4);
+STUN_TYPES_LAYOUT(covered_length, offsetof(stun_types_covered, length) == 8);
+STUN_TYPES_LAYOUT(hmac_size, sizeof(stun_types_hmac) == 36);
+STUN_TYPES_LAYOUT(hmac_algorithm, offsetof(stun_types_hmac, algorithm) == 0);
+STUN_TYPES_LAYOUT(hmac_bytes, offsetof(stun_types_hmac, bytes) == 4);
 STUN_TYPES_LAYOUT(authentication_size, sizeof(stun_types_authentication) == 24);
 STUN_TYPES_LAYOUT(authentication_kind, offsetof(stun_types_authentication, kind) == 0);
 STUN_TYPES_LAYOUT(authentication_error_code, offsetof(stun_types_authentication, error_code) == 4);

@@ -4,13 +4,14 @@
 
 #include <string.h>
 
+#include "ice_key.h"
 #include "stun_types.h"
 
 enum { ICE_ROOM = 2000, ICE_TYPES = 64 };
 
 typedef struct {
-    const char *ufrag;  /* its own fragment, which its peer knows */
-    stun_types_key key; /* of its own password */
+    const char *ufrag; /* its own fragment, which its peer knows */
+    ice_key key;       /* of its own password */
     uint64_t tiebreaker;
     bool is_controlling;
 } ice_agent;
@@ -24,19 +25,14 @@ typedef struct {
     bool nominates;    /* the check nominates its pair */
 } ice_answer;
 
-static const stun_types_key ice_no_key = STUN_TYPES_KEY_INIT;
-
-static inline bool ice_is_fine(stun_types_answer answer) { return answer.code == STUN_TYPES_OK; }
-
-/* The key of whom a check is for: its USERNAME begins with the agent's fragment and a colon. */
-static inline const stun_types_key *ice_key_of(const ice_agent *agent, const uint8_t *check,
-                                               size_t length) {
+/* The key of whom a check is for: its USERNAME begins with the agent's fragment and a colon. Otherwise NULL. */
+static inline const ice_key *ice_key_of(const ice_agent *agent, const uint8_t *check, size_t length) {
     stun_types_attribute name;
     size_t own = strlen(agent->ufrag);
     bool is_ours = stun_types_find(check, length, STUN_TYPES_ATTRIBUTE_USERNAME, &name) &&
                    name.length > own && check[name.value_at + own] == ':' &&
                    memcmp(check + name.value_at, agent->ufrag, own) == 0;
-    return is_ours ? &agent->key : &ice_no_key;
+    return is_ours ? &agent->key : NULL;
 }
 
 /* The types that the check shows, that must be understood and that this agent doesn't know. */
@@ -108,8 +104,6 @@ static inline bool ice_write_reply(ice_agent *agent, const uint8_t *check, size_
  * the path alive, and anything else isn't for the agent. */
 static inline void ice_take(ice_agent *agent, const uint8_t *check, size_t length,
                             const stun_types_address *source, ice_answer *to) {
-    static const stun_types_policy policy = {.fingerprint = 1}; /* ICE uses FINGERPRINT */
-    stun_types_authentication decision;
     stun_types_header header;
     bool is_written = false;
     memset(to, 0, sizeof *to);
@@ -117,16 +111,15 @@ static inline void ice_take(ice_agent *agent, const uint8_t *check, size_t lengt
         header.message_class != STUN_TYPES_CLASS_REQUEST || header.method != STUN_TYPES_METHOD_BINDING) {
         return;
     }
-    const stun_types_key *key = ice_key_of(agent, check, length);
-    if (!ice_is_fine(stun_types_authenticate_short_term(check, length, &policy, key, &decision))) return;
+    const ice_key *key = ice_key_of(agent, check, length);
+    stun_types_authentication decision = ice_authenticate(check, length, key);
     if (decision.kind == STUN_TYPES_REFUSED) {
         to->code = decision.error_code;
         is_written = ice_is_fine(stun_types_refuse_short_term(check, length, to->code, to->reply,
                                                               sizeof to->reply, &to->length));
     } else if (decision.kind == STUN_TYPES_ACCEPTED) {
         is_written = ice_write_reply(agent, check, length, source, to) &&
-                     ice_is_fine(stun_types_finish_reply(to->reply, sizeof to->reply, &to->length,
-                                                         &decision, key, &ice_no_key, true));
+                     ice_finish_reply(to->reply, sizeof to->reply, &to->length, &decision, key);
     }
     if (!is_written) to->length = 0;
 }

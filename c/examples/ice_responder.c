@@ -1,5 +1,6 @@
 /* An ICE agent that answers connectivity checks (RFC 8445, section 7.3), and prints what it has
- * learned from each. What it answers is decided in ice_agent.h.
+ * learned from each. What it answers is decided in ice_agent.h. HMACs are the library's, but hmac_nettle.c and
+ * hmac_openssl.c have commands that build it with others.
  *
  *     cc -O2 -I c c/examples/ice_responder.c libstun_types.a -o ice_responder
  *     ./ice_responder ADDRESS PORT UFRAG PASSWORD TIEBREAKER
@@ -52,7 +53,7 @@ static void serve(int socket, ice_agent *agent) {
 int main(int count, char **arguments) {
     socket_address own;
     stun_types_address bound;
-    ice_agent agent = {.key = STUN_TYPES_KEY_INIT};
+    ice_agent agent = {.is_controlling = false};
     if (count != 6 || !read_address(arguments[1], arguments[2], SOCK_DGRAM, &own)) {
         fprintf(stderr, "usage: ice_responder ADDRESS PORT UFRAG PASSWORD TIEBREAKER\n");
         return 2;
@@ -62,9 +63,12 @@ int main(int count, char **arguments) {
     int listening = socket(own.bytes.ss_family, SOCK_DGRAM, 0);
     if (listening < 0 || bind(listening, (struct sockaddr *)&own.bytes, own.length) != 0 ||
         getsockname(listening, (struct sockaddr *)&own.bytes, &own.length) != 0 ||
-        !address_of(&own.bytes, &bound) ||
-        !ice_is_fine(stun_types_key_short_term(&agent.key, arguments[4], strlen(arguments[4])))) {
+        !address_of(&own.bytes, &bound)) {
         perror("ice_responder");
+        return 2;
+    }
+    if (!ice_make_key(&agent.key, arguments[4])) {
+        fprintf(stderr, "ice_responder: the key can't be made\n");
         return 2;
     }
     printf("listening on ");
@@ -72,6 +76,6 @@ int main(int count, char **arguments) {
     printf("\n");
     fflush(stdout);
     serve(listening, &agent);
-    stun_types_key_free(&agent.key);
+    ice_free_key(&agent.key);
     return 0;
 }

@@ -153,6 +153,76 @@ static void check_validation(const uint8_t *bytes, size_t length, source *from) 
     HOLDS(memcmp(told, other, sizeof *told) == 0);
 }
 
+/* What validation by an HMAC needs: the attribute that is checked, or that none is, or why it can't be
+   right. */
+static stun_types_answer checked_by(const uint8_t *bytes, size_t length, const model_list *shown,
+                                    uint32_t algorithm, const stun_types_attribute **checked) {
+    static const stun_types_policy lax = {STUN_TYPES_INTEGRITY_ANY, 16, 0, 0};
+    model_key key = pairs[PASSWORD].model;
+    stun_types_validated ignored;
+    stun_types_answer answer = model_parse(bytes, length);
+    *checked = NULL;
+    if (answer.code != STUN_TYPES_OK) return answer;
+    if (algorithm != STUN_TYPES_INTEGRITY_ANY && algorithm != STUN_TYPES_INTEGRITY_SHA1
+        && algorithm != STUN_TYPES_INTEGRITY_SHA256)
+        return BAD_ARGUMENT;
+    key.algorithm = algorithm;
+    answer = model_validate(bytes, length, &lax, &key, &ignored);
+    if (answer.code != STUN_TYPES_OK && answer.code != STUN_TYPES_INTEGRITY_FAILED) return answer;
+    if (algorithm != STUN_TYPES_INTEGRITY_SHA1) *checked = model_find(shown, 0x001C);
+    if (*checked == NULL) *checked = model_find(shown, 0x0008);
+    return FINE;
+}
+
+/* Validation in two halves, by the HMAC of a key of the model, of another one, or by any bytes. */
+static void check_halves(const uint8_t *bytes, size_t length, const model_list *shown, source *from) {
+    static const uint32_t algorithms[]
+        = {STUN_TYPES_INTEGRITY_ANY, STUN_TYPES_INTEGRITY_SHA1, STUN_TYPES_INTEGRITY_SHA256};
+    unsigned how = take(from), changes = take(from);
+    uint32_t algorithm = how == 255 ? take_four(from) : algorithms[how % 3];
+    const model_key *key = &pairs[how % 2 == 0 ? PASSWORD : take(from) % PAIRS].model;
+    const stun_types_attribute *checked;
+    stun_types_covered *covered = NEW(stun_types_covered), expected;
+    stun_types_hmac *hmac = NEW(stun_types_hmac);
+    stun_types_validated *told = NEW(stun_types_validated), wanted;
+    stun_types_answer fault = checked_by(bytes, length, shown, algorithm, &checked);
+    memset(&expected, 0, sizeof expected);
+    memset(&wanted, 0, sizeof wanted);
+    HOLDS(is_same(stun_types_covered_text(bytes, length, (stun_types_integrity)algorithm, covered),
+                  fault));
+    take_bytes(from, hmac, sizeof *hmac);
+    hmac->algorithm = (stun_types_integrity)algorithms[1 + changes / 2 % 2];
+    if (checked != NULL) {
+        size_t counted = checked->value_at + model_padded(checked->length) - 20;
+        expected.algorithm = (stun_types_integrity)checked->type;
+        memcpy(expected.first, bytes, 2);
+        expected.first[2] = (uint8_t)(counted >> 8);
+        expected.first[3] = (uint8_t)counted;
+        expected.length = checked->value_at - 4;
+        if (changes % 8 != 7) hmac->algorithm = expected.algorithm;
+        if (changes % 8 < 5)
+            model_hmac(bytes, checked->value_at - 4, checked->length, checked->type, key, hmac->bytes);
+        if (changes % 8 == 4) hmac->bytes[take(from) % 32] ^= (uint8_t)take(from);
+    }
+    HOLDS(memcmp(covered, &expected, sizeof expected) == 0);
+    if (changes == 255) hmac->algorithm = (stun_types_integrity)take_four(from);
+    if (hmac->algorithm != STUN_TYPES_INTEGRITY_SHA1 && hmac->algorithm != STUN_TYPES_INTEGRITY_SHA256
+        && model_parse(bytes, length).code == STUN_TYPES_OK)
+        fault = BAD_ARGUMENT;
+    else if (checked != NULL
+             && (hmac->algorithm != (stun_types_integrity)checked->type
+                 || memcmp(hmac->bytes, bytes + checked->value_at, checked->length) != 0))
+        fault = model_answer(STUN_TYPES_INTEGRITY_FAILED, 0, 0, 0);
+    else if (checked != NULL) {
+        wanted.algorithm = expected.algorithm;
+        wanted.hmac_length = checked->length;
+    }
+    HOLDS(is_same(stun_types_validate_with_hmac(bytes, length, (stun_types_integrity)algorithm, hmac,
+                                                told),
+                  fault));
+    HOLDS(memcmp(told, &wanted, sizeof wanted) == 0);
+}
+
 void check_read(const uint8_t *original, size_t length, source *from) {
     static model_list shown;
     const uint8_t *bytes = give(original, length);
@@ -178,6 +248,7 @@ void check_read(const uint8_t *original, size_t length, source *from) {
     check_outside(bytes, length, from);
     check_text(bytes, length, parsed, take_two(from));
     check_validation(bytes, length, from);
+    check_halves(bytes, length, &shown, from);
     check_servers(bytes, length, &shown, from);
     check_clients(bytes, length, &shown, from);
     HOLDS(length == 0 || memcmp(bytes, original, length) == 0);

@@ -9,6 +9,7 @@ typedef struct {
     size_t size, written;
     size_t count;
     stun_types_attribute added[1024];
+    bool is_signed; /* by PASSWORD, the last integrity attribute that was added */
 } writing;
 
 /* Whether an attribute of a type is written. */
@@ -159,9 +160,67 @@ static void add_integrity(writing *one, source *from) {
     else if (!model_serves(&key->model, algorithm)) fault = BAD_ARGUMENT;
     answer = stun_types_add_integrity(one->room, one->size, &one->written, &key->key,
                                       (stun_types_integrity)algorithm);
-    if (answer.code == STUN_TYPES_OK)
+    if (answer.code == STUN_TYPES_OK) {
         model_hmac(one->wanted.bytes, one->wanted.length, length, algorithm, &key->model, hmac);
+        one->is_signed = true;
+    }
     check_added(one, answer, algorithm, hmac, length, fault);
+}
+
+/* What an integrity attribute covers if it is added to what is written, whether or not it may be. */
+static stun_types_covered covered_next(const writing *one, uint32_t algorithm) {
+    size_t length = one->wanted.length - 20 + (algorithm == STUN_TYPES_INTEGRITY_SHA1 ? 24 : 36);
+    stun_types_covered covered;
+    memset(&covered, 0, sizeof covered);
+    covered.algorithm = (stun_types_integrity)algorithm;
+    memcpy(covered.first, one->wanted.bytes, 2);
+    covered.first[2] = (uint8_t)(length >> 8);
+    covered.first[3] = (uint8_t)length;
+    covered.length = one->wanted.length;
+    return covered;
+}
+
+/* An integrity attribute with an HMAC of the model's or of any bytes, in two halves: what is reported, or
+   what was of something else. */
+static void add_hmac(writing *one, source *from) {
+    static const uint32_t algorithms[]
+        = {STUN_TYPES_INTEGRITY_SHA1, STUN_TYPES_INTEGRITY_SHA256, 0, 1};
+    unsigned how = take(from), changes = take(from);
+    uint32_t algorithm = how == 255 ? take_four(from) : algorithms[how > 240 ? how % 4 : how % 2];
+    bool is_one = algorithm == STUN_TYPES_INTEGRITY_SHA1 || algorithm == STUN_TYPES_INTEGRITY_SHA256;
+    size_t length = algorithm == STUN_TYPES_INTEGRITY_SHA1 ? 20 : 32;
+    stun_types_covered *covered = NEW(stun_types_covered), wanted = covered_next(one, algorithm);
+    stun_types_hmac *hmac = NEW(stun_types_hmac);
+    stun_types_answer answer, fault = is_one ? FINE : BAD_ARGUMENT;
+    answer = stun_types_next_covered_text(one->room, one->size, one->written,
+                                          (stun_types_integrity)algorithm, covered);
+    if (is_one) fault = refusal_of(&one->wanted, one->size, algorithm, length);
+    HOLDS(is_same(answer, fault));
+    if (answer.code != STUN_TYPES_OK) memset(&wanted, 0, sizeof wanted);
+    HOLDS(memcmp(covered, &wanted, sizeof wanted) == 0);
+    take_bytes(from, hmac, sizeof *hmac);
+    hmac->algorithm = (stun_types_integrity)algorithm;
+    if (changes % 2 == 0 && is_one)
+        model_hmac(one->wanted.bytes, one->wanted.length, length, algorithm, &pairs[PASSWORD].model,
+                   hmac->bytes);
+    /* (what the order or the room refuses is tried too) */
+    wanted = covered_next(one, algorithm);
+    *covered = wanted;
+    if (changes % 16 == 3) ((uint8_t *)covered)[take(from) % sizeof *covered] = (uint8_t)take(from);
+    if (changes % 16 == 5) hmac->algorithm = (stun_types_integrity)algorithms[take(from) % 4];
+    if (changes % 64 == 7) memset(covered, 0, sizeof *covered);
+    fault = !is_one || hmac->algorithm != wanted.algorithm
+                    || memcmp(covered, &wanted, sizeof wanted) != 0
+                ? BAD_ARGUMENT
+                : FINE;
+    answer = stun_types_add_hmac(one->room, one->size, &one->written, covered, hmac);
+    if (answer.code == STUN_TYPES_OK) {
+        uint8_t right[32];
+        model_hmac(one->wanted.bytes, one->wanted.length, length, algorithm, &pairs[PASSWORD].model,
+                   right);
+        one->is_signed = memcmp(hmac->bytes, right, length) == 0;
+    }
+    check_added(one, answer, algorithm, hmac->bytes, length, fault);
 }
 
 static void add_fingerprint(writing *one) {
@@ -192,7 +251,9 @@ static void check_written(const writing *one, source *from) {
     HOLDS(!stun_types_next(one->room, one->written, &cursor, &told));
     SUCCEEDS(stun_types_parse(one->room, one->written));
     answer = stun_types_validate(one->room, one->written, &pairs[PASSWORD].key, &told_of);
-    if (has(one, 0x001C))
+    if ((has(one, 0x001C) || has(one, 0x0008)) && !one->is_signed)
+        HOLDS(answer.code == STUN_TYPES_INTEGRITY_FAILED && told_of.algorithm == 0);
+    else if (has(one, 0x001C))
         HOLDS(answer.code == STUN_TYPES_OK && told_of.algorithm == STUN_TYPES_INTEGRITY_SHA256
               && told_of.hmac_length == 32);
     else if (has(one, 0x0008))
@@ -277,8 +338,8 @@ static void check_begun(source *from) {
     steps = take(from) % 16 == 0 ? take(from) * 3 : take(from) % 10;
     for (i = 0; i < steps; i++) {
         switch (take(from) % 16) {
-        case 0:
-        case 1: add_integrity(&one, from); break;
+        case 0: add_integrity(&one, from); break;
+        case 1: add_hmac(&one, from); break;
         case 2: add_fingerprint(&one); break;
         case 3:
         case 4: add_error(&one, from); break;

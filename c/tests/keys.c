@@ -377,10 +377,9 @@ static void check_makes_one(size_t i, const stun_types_key *key) {
     CHECK(validated->hmac_length == (made[i].algorithm == STUN_TYPES_INTEGRITY_SHA1 ? 20 : 32));
 }
 
-/* Makes the key over what it holds, and refuses each allocation of it in turn. With no memory for
-   what a key is prepared by, the key is made all the same. */
+/* Makes the key over what it holds, and refuses each allocation of it in turn. */
 static void check_made(size_t i, stun_types_key *key, bool is_pass) {
-    long number, unprepared = 0;
+    long number;
     for (number = 1; number < 100; number++) {
         stun_types_key before = *key;
         long held = heap_held(), asked;
@@ -394,20 +393,12 @@ static void check_made(size_t i, stun_types_key *key, bool is_pass) {
             ANSWERS(answer, OK_ANSWER);
             break;
         }
-        if (answer.code == STUN_TYPES_OK) {
-            unprepared++;
-            check_makes_one(i, key);
-            stun_types_key_free(key);
-            if (is_pass) *key = *password_key(text("pass"));
-            continue;
-        }
         ANSWERS(answer, PLAIN(STUN_TYPES_OUT_OF_MEMORY));
         CHECK(key->at == before.at && key->held == before.held);
         CHECK(heap_held() == held);
         if (is_pass) check_key_is_pass(key);
     }
     CHECK(number > 1 && number < 100);
-    CHECK(unprepared == 1);
 }
 
 static void check_makes(size_t i, stun_types_key *key, long held) {

@@ -12,7 +12,7 @@ static const struct {
     void (*run)(void);
 } parts[] = {
     {"numbers", test_numbers}, {"reading", test_reading}, {"keys", test_keys},
-    {"writing", test_writing}, {"servers", test_servers}, {"clients", test_clients},
+    {"hmacs", test_hmacs}, {"writing", test_writing}, {"servers", test_servers}, {"clients", test_clients},
     {"streams", test_streams}, {"nulls", test_nulls}, {"calls", test_calls},
     {"overlaps", test_overlaps}, {"turn", test_turn}, {"turn_answers", test_turn_answers},
 };

@@ -17,6 +17,8 @@ static const stun_types_id id = {{0}};
 #define NO_ADDRESS {{0}, 0, 0}
 #define NOT_READY {NO_ADDRESS, NO_ADDRESS, NO_ADDRESS, NO_ADDRESS, 0, 0}
 static const stun_types_address address = AN_ADDRESS;
+static const stun_types_covered no_covered = {STUN_TYPES_INTEGRITY_SHA1, {0}, 0};
+static const stun_types_hmac no_hmac = {STUN_TYPES_INTEGRITY_SHA1, {0}};
 
 static void test_read(void) {
     static const stun_types_attribute none = {24, STUN_TYPES_ATTRIBUTE_UNKNOWN_ATTRIBUTES, 0};
@@ -78,6 +80,10 @@ static void test_made(void) {
             LENGTHS(STUN_TYPES_TOO_SMALL, 16, 0));
     ANSWERS(stun_types_validate(NULL, 0, key, validated), NOTHING);
     ANSWERS(stun_types_validate_by_policy(NULL, 0, &strict, key, validated), NOTHING);
+    ANSWERS(stun_types_covered_text(NULL, 0, STUN_TYPES_INTEGRITY_ANY, NEW(stun_types_covered)),
+            NOTHING);
+    ANSWERS(stun_types_validate_with_hmac(NULL, 0, STUN_TYPES_INTEGRITY_ANY, &no_hmac, validated),
+            NOTHING);
     ANSWERS(stun_types_validate_short_term(NULL, 0, NULL, 0, validated), NOTHING);
     ANSWERS(stun_types_validate_short_term(bytes.bytes, bytes.length, NULL, 0, validated),
             PLAIN(STUN_TYPES_BAD_ARGUMENT));
@@ -125,6 +131,10 @@ static void test_written(void) {
     ANSWERS(stun_types_add_error(NULL, 0, written, STUN_TYPES_CODE_BAD_REQUEST, NULL, 0),
             PLAIN(STUN_TYPES_BAD_ARGUMENT));
     ANSWERS(stun_types_add_unknown_types(NULL, 0, written, NULL, 0), PLAIN(STUN_TYPES_BAD_ARGUMENT));
+    ANSWERS(stun_types_next_covered_text(NULL, 0, 0, STUN_TYPES_INTEGRITY_SHA1,
+                                         NEW(stun_types_covered)),
+            NO_VALUE);
+    ANSWERS(stun_types_add_hmac(NULL, 0, written, &no_covered, &no_hmac), NO_VALUE);
     ANSWERS(stun_types_add_integrity(NULL, 0, written, key, STUN_TYPES_INTEGRITY_SHA1),
             PLAIN(STUN_TYPES_BAD_ARGUMENT));
     ANSWERS(stun_types_add_fingerprint(NULL, 0, written), PLAIN(STUN_TYPES_BAD_ARGUMENT));

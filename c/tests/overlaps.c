@@ -69,6 +69,12 @@ CALL(validate_short_term) { REPORT(stun_types_validate_short_term(at[0], 28, at[
 CALL(validate_long_term) {
     REPORT(stun_types_validate_long_term(at[0], 28, at[1], 4, at[2], 5, at[3], 4, at[4]));
 }
+CALL(covered_text) {
+    REPORT(stun_types_covered_text(at[0], 28, STUN_TYPES_INTEGRITY_ANY, at[1]));
+}
+CALL(validate_with_hmac) {
+    REPORT(stun_types_validate_with_hmac(at[0], 28, STUN_TYPES_INTEGRITY_ANY, at[1], at[2]));
+}
 CALL(begin) { REPORT(stun_types_begin(at[0], 40, 0x0001, at[1], at[2])); }
 CALL(begin_reply) {
     REPORT(stun_types_begin_reply(at[0], 40, at[1], 28, STUN_TYPES_CLASS_SUCCESS, at[2]));
@@ -87,6 +93,10 @@ CALL(add_unknown_types) { REPORT(stun_types_add_unknown_types(at[0], 44, at[1], 
 CALL(add_integrity) {
     REPORT(stun_types_add_integrity(at[0], 44, at[1], at[2], STUN_TYPES_INTEGRITY_SHA1));
 }
+CALL(next_covered_text) {
+    REPORT(stun_types_next_covered_text(at[0], 44, 20, STUN_TYPES_INTEGRITY_SHA1, at[1]));
+}
+CALL(add_hmac) { REPORT(stun_types_add_hmac(at[0], 44, at[1], at[2], at[3])); }
 CALL(add_fingerprint) { REPORT(stun_types_add_fingerprint(at[0], 44, at[1])); }
 CALL(binding_reply) { REPORT(stun_types_binding_reply(at[0], 20, at[1], at[2], 60, at[3])); }
 CALL(authenticate_short_term) {
@@ -202,6 +212,7 @@ static const struct {
 #define SCHEDULE "F401 00*6 4C9A 00*6 07000000 10000000 00*16"
 #define SENT SCHEDULE " 00*28 01000000 0100 01 04 0000"
 #define POLICY GIVEN(sizeof(stun_types_policy), "")
+#define HMAC {READ, sizeof(stun_types_hmac), 4, "08000000"}
 #define TURN_SERVER {SERVER, sizeof(stun_types_turn), 8, ""}
 
 static const guarded_call calls[] = {
@@ -241,6 +252,9 @@ static const guarded_call calls[] = {
      {BYTES(28, USER), BYTES(4, ""), ZEROED(16)}},
     {"stun_types_validate_long_term", validate_long_term,
      {BYTES(28, USER), BYTES(4, ""), BYTES(5, ""), BYTES(4, ""), ZEROED(16)}},
+    {"stun_types_covered_text", covered_text, {BYTES(28, USER), ZEROED(16)}},
+    {"stun_types_validate_with_hmac", validate_with_hmac,
+     {BYTES(28, USER), HMAC, ZEROED(16)}},
     {"stun_types_begin", begin, {ROOM(40, ""), BYTES(sizeof(stun_types_id), ""), COUNTED}},
     {"stun_types_begin_reply", begin_reply, {ROOM(40, ""), BYTES(28, USER), COUNTED}},
     {"stun_types_add", add, {BEGUN, BYTES(8, "")}},
@@ -253,6 +267,9 @@ static const guarded_call calls[] = {
     {"stun_types_add_error", add_error, {BEGUN, BYTES(4, "")}},
     {"stun_types_add_unknown_types", add_unknown_types, {BEGUN, GIVEN(8, "")}},
     {"stun_types_add_integrity", add_integrity, {BEGUN, GIVEN(sizeof(stun_types_key), "")}},
+    {"stun_types_next_covered_text", next_covered_text, {BYTES(44, HEADER), ZEROED(16)}},
+    {"stun_types_add_hmac", add_hmac,
+     {BEGUN, GIVEN(sizeof(stun_types_covered), "08000000 00010018 14"), HMAC}},
     {"stun_types_add_fingerprint", add_fingerprint, {BEGUN}},
     {"stun_types_binding_reply", binding_reply,
      {BYTES(20, HEADER), ADDRESS, ROOM(60, ""), ZEROED(sizeof(size_t))}},

@@ -15,6 +15,11 @@ void secrets_of(const void *key, size_t length, void (*add)(const void *bytes, s
 void digest_of(int algorithm, const void *bytes, size_t length, uint8_t *result);
 void hmac_of(int algorithm, const char *key, const uint8_t *bytes, size_t length, uint8_t *result);
 
+/* The HMAC of two texts, one after the other, under a key of any bytes, by the same numbers. It allocates
+   nothing. */
+void own_hmac(int algorithm, const void *key, size_t key_length, const uint8_t *front,
+              size_t front_length, const uint8_t *back, size_t back_length, uint8_t *result);
+
 /* CRC-32 of ISO-HDLC. */
 uint32_t checksum_of(const uint8_t *bytes, size_t length);
 

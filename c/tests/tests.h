@@ -5,6 +5,7 @@
 void test_numbers(void);
 void test_reading(void);
 void test_keys(void);
+void test_hmacs(void);
 void test_writing(void);
 void test_servers(void);
 void test_clients(void);

@@ -3,6 +3,8 @@
 
 #include <string.h>
 
+#include "../own_hmacs.h"
+
 /* The verdict by a key. */
 static stun_types_answer by_key(slice octets, const stun_types_key *key,
                                 stun_types_validated *validated) {
@@ -18,6 +20,14 @@ static void answer_verdict(stun_types_answer result, const stun_types_validated 
     }
 }
 
+/* Checks that the verdict by a key's HMAC is the same, which other code computes. */
+static void check_by_hmac(slice octets, const stun_types_key *key, stun_types_answer result,
+                          const stun_types_validated *validated) {
+    stun_types_validated *other = NEW(stun_types_validated);
+    CHECK(is_same_answer(result, own_validate(octets, key, other)));
+    CHECK(memcmp(other, validated, sizeof *other) == 0);
+}
+
 /* Checks that the verdict by a key is the same, and that by a policy which takes as short an HMAC. */
 static void check_by_key(slice octets, const stun_types_key *key, stun_types_answer result,
                          const stun_types_validated *validated) {
@@ -28,6 +38,7 @@ static void check_by_key(slice octets, const stun_types_key *key, stun_types_ans
     CHECK(is_same_answer(result, stun_types_validate_by_policy(octets.bytes, octets.length, &lax,
                                                                key, other)));
     CHECK(memcmp(other, validated, sizeof *other) == 0);
+    check_by_hmac(octets, key, result, validated);
 }
 
 static void password(void) {
@@ -87,6 +98,7 @@ static void key(void) {
     if (make_key(&made, bytes, made_for) && is_taken(stun_types_key_copy(&copy, &made))) {
         stun_types_answer result = by_key(octets, &made, validated);
         answer_verdict(result, validated);
+        check_by_hmac(octets, &made, result, validated);
         CHECK(is_same_answer(result, by_key(octets, &copy, validated)));
     }
     stun_types_key_free(&made);

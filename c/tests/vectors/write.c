@@ -4,6 +4,8 @@
 #include <stdlib.h>
 #include <string.h>
 
+#include "../own_hmacs.h"
+
 enum { STEPS = 32 };
 
 typedef enum { ATTRIBUTE, SIGN, FINGER } step_kind;
@@ -83,13 +85,23 @@ static void free_steps(void) {
     for (at = 0; at < step_count; at++) stun_types_key_free(&steps[at].key);
 }
 
+/* Signs, and checks that the same is written with the key's HMAC, which other code computes. */
+static stun_types_answer take_signing(const step *it, draft *to) {
+    uint8_t *bytes = copy(to->room, to->size);
+    size_t written = to->written;
+    stun_types_answer result
+        = stun_types_add_integrity(to->room, to->size, &to->written, &it->key, it->algorithm);
+    CHECK(is_same_answer(result, own_add(bytes, to->size, &written, &it->key, it->algorithm)));
+    CHECK(written == to->written && memcmp(bytes, to->room, to->size) == 0);
+    return result;
+}
+
 static stun_types_answer take(const step *it, draft *to) {
     switch (it->kind) {
     case ATTRIBUTE:
         return stun_types_add(to->room, to->size, &to->written, it->type, it->value.bytes,
                               it->value.length);
-    case SIGN:
-        return stun_types_add_integrity(to->room, to->size, &to->written, &it->key, it->algorithm);
+    case SIGN: return take_signing(it, to);
     default: return stun_types_add_fingerprint(to->room, to->size, &to->written);
     }
 }

@@ -11,8 +11,10 @@ use anyhow::Result;
 use relay::Relay;
 use std::alloc::Global;
 use std::net::SocketAddr;
-use stun_authentication::{NonceMaker, SecurityFeatures};
+use stun_authentication::{NonceMaker, Policy, SecurityFeatures};
+use stun_types::attribute::Realm;
 use stun_types::message::{IntegrityKey, LongTermCredentials};
+use turn_server::Access;
 use turn_table::peers::Peers;
 use walk::{PASSWORD, SERVER, USER, Walk};
 
@@ -34,8 +36,13 @@ fn exchange(alloc: Global) -> Result<String> {
         password_algorithms: true,
         username_anonymity: false,
     };
-    let nonces = NonceMaker::new(secret, features, 600)?;
-    let relay = Relay::new(alloc, [1, 2], own, &users, &nonces, peers)?;
+    let access = Access {
+        nonces: NonceMaker::new(secret, features, 600)?,
+        realm: Realm::new(alloc, "example.org")?,
+        policy: Policy::default(),
+        software: None,
+    };
+    let relay = Relay::new(alloc, [1, 2], own, &access, &users, peers)?;
     let mut walk = Walk::begin(alloc, relay)?;
     let retry = walk.allocate()?;
     walk.permit(&retry)?;

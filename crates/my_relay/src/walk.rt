@@ -1,10 +1,11 @@
 //! The exchange, step by step: what the client and the peer send, and what they receive.
 
-use crate::relay::{ALGORITHMS, HEAD, Relay, Sending};
+use crate::relay::{HEAD, Relay, Sending};
 use anyhow::{Context, Result};
 use std::alloc::Global;
 use std::net::SocketAddr;
 use stun_authentication::{Retry, answer_challenge, challenge_of};
+use stun_types::attribute::PasswordAlgorithmValue;
 use stun_types::message::{
     Message, MessageClass, MessageType, MessageWriteVec, StunWriteError, TransactionId,
 };
@@ -155,14 +156,15 @@ impl<'a> Walk<'a> {
     fn send(&mut self, datagram: &[u8]) -> Result<Vec<u8>> {
         let lines = &mut self.lines;
         say(lines, CLIENT, SERVER, datagram)?;
+        let mut buffer = [0; 1500];
         match self
             .relay
-            .from_client(self.alloc, NOW, self.client, datagram)?
+            .from_client(self.alloc, NOW, self.client, datagram, &mut buffer)?
         {
             Sending::Nothing => Ok(Vec::new(self.alloc)),
             Sending::ToClient(reply) => {
-                say(lines, SERVER, CLIENT, &reply)?;
-                Ok(reply)
+                say(lines, SERVER, CLIENT, reply)?;
+                Ok(Vec::from_slice(self.alloc, reply)?)
             }
             Sending::ToPeer { socket, peer, data } => {
                 let from = format!(in self.alloc; "socket {socket}")?;
@@ -210,7 +212,8 @@ impl<'a> Walk<'a> {
         let first = allocate_request(self.alloc, 1, None)?;
         let reply = self.send(&first)?;
         let refused = Message::from_bytes(&reply)?;
-        let asked = challenge_of(&refused, &ALGORITHMS, None, false);
+        let known = [PasswordAlgorithmValue::SHA256, PasswordAlgorithmValue::MD5];
+        let asked = challenge_of(&refused, &known, None, false);
         let retry = asked.ok().context("no challenge")?.into_owned(self.alloc)?;
         let second = allocate_request(self.alloc, 2, Some(&retry))?;
         self.ask(&second)?;

@@ -7,7 +7,7 @@ use Rattle.stun_grammar.specs.declared.integrity_algorithm.IntegrityAlgorithm.Th
 use Rattle.stun_grammar.specs.AttributeTypes.{USERNAME, REALM, NONCE, XOR_MAPPED_ADDRESS, SOFTWARE, MESSAGE_INTEGRITY, FINGERPRINT}
 use Rattle.stun_grammar.specs.Chains.{Shown}
 use Rattle.stun_grammar.specs.Sending.{Sent}
-use Rattle.stun_grammar.specs.Steps.{add, sign, finger}
+use Rattle.stun_grammar.specs.Steps.{add, sign, sign_given, finger}
 use Rattle.stun_keys.specs.Keys.{long_term_key}
 use Rattle.stun_values.specs.Addresses.{plain_socket}
 
@@ -159,4 +159,13 @@ message_signed_twice = record {
   id = check_id;
   steps =
       add SOFTWARE (codes "other") ∷ sign Sha1 password ∷ sign Sha256 password ∷ finger ∷ [];
+}
+
+-- the same message, whose integrity attributes are given these HMACs
+abbrev pub message_given : (sha1 sha256 : List ℕ) → Sent
+message_given sha1 sha256 = record {
+  type = 0x0001;
+  id = check_id;
+  steps =
+      add SOFTWARE (codes "other") ∷ sign_given Sha1 sha1 ∷ sign_given Sha256 sha256 ∷ finger ∷ [];
 }

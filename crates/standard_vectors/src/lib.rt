@@ -39,7 +39,7 @@ ghost use Rattle.stun_values.specs.Typed.{rule_of};
 ghost use Rattle.stun_values.specs.TypeLists.{types_fault, types_in, types_encoding};
 ghost use Rattle.standard_vectors.specs.Digests.{two_blocks, eighty_digits, sha1_of_abc, sha1_of_two_blocks, sha256_of_abc, sha256_of_two_blocks, md5_of_abc, md5_of_digits, question, long_key_text, sha1_case_1, sha1_case_2, sha1_case_6, sha256_case_1, sha256_case_2, sha256_case_6, sha1_of_64, sha1_of_65, sha256_of_64, sha256_of_65};
 ghost use Rattle.standard_vectors.specs.Messages.{sample_request, ipv4_response, ipv6_response, long_term_request, sha256_request};
-ghost use Rattle.standard_vectors.specs.Parameters.{password, user_name, realm, user_key, user_hash, sha256_hmac, check_id, user_id, mapped_ipv4, mapped_ipv6, sample_request_attributes, ipv4_response_attributes, ipv6_response_attributes, long_term_request_attributes, long_term_message, message_signed_twice};
+ghost use Rattle.standard_vectors.specs.Parameters.{password, user_name, realm, user_key, user_hash, sha256_hmac, check_id, user_id, mapped_ipv4, mapped_ipv6, sample_request_attributes, ipv4_response_attributes, ipv6_response_attributes, long_term_request_attributes, long_term_message, message_signed_twice, message_given};
 ghost use Rattle.standard_vectors.specs.Right.{signed_text, IsRead, IsSigned, HasFingerprint, IsAnswered, IsShown, cut_to, followed_by, with_bytes, types_of, refusals_after, text_of_sha256, lengths_of};
 ghost use Rattle.standard_vectors.specs.Tables.{all_types, all_rules, all_names};
 ghost use Rattle.standard_vectors.specs.WrittenMessages.{full_sha256, short_sha256, signed_twice, sha1_of_16, sha256_of_12, sha256_of_18, sha256_of_36, integrity_fingerprint_sha256, sha256_integrity_fingerprint, sha256_fingerprint_integrity, fingerprint_integrity_sha256, fingerprint_sha256_integrity, integrity_software, fingerprint_alone, software, zero_fingerprint, cut_username};
@@ -227,13 +227,16 @@ pub fn greatest_lengths_are_right()
 {}
 
 /// What is signed in a message with all three ending attributes, written step by step: by each
-/// algorithm and key, the bytes before the integrity attribute and the attributes through it; that the
+/// algorithm and key, the bytes before the integrity attribute and the attributes through it, as if
+/// the attribute is given the HMAC with the key, and not if it is given another one; that the
 /// content of its bytes comes from it, and other content doesn't; and that SHA-256 alone signed the
 /// bytes that the second attribute covers.
 pub fn signatures_are_right()
     ensures sha1 { signed message_signed_twice password Sha1 ≡ record { covered = signed_text signed_twice 32; through = chain (slice_range signed_twice 20 56) } ∷ [] }
     ensures sha256 { signed message_signed_twice password Sha256 ≡ record { covered = text_of_sha256; through = chain (slice_range signed_twice 20 92) } ∷ [] }
     ensures other_key { signed message_signed_twice (codes "other") Sha1 ≡ [] }
+    ensures given { signed (message_given (slice_range signed_twice 36 56) []) password Sha1 ≡ record { covered = signed_text signed_twice 32; through = chain (slice_range signed_twice 20 56) } ∷ [] }
+    ensures other_given { signed (message_given (slice_range signed_twice 60 80) []) password Sha1 ≡ [] }
     ensures origin { ComesFrom (message_signed_twice ∷ []) password Sha256 text_of_sha256 (content signed_twice) }
     ensures other_content { ¬ (ComesFrom (message_signed_twice ∷ []) password Sha256 text_of_sha256 (content ipv4_response)) }
     ensures was_signed { ¬ (IsUnsigned (message_signed_twice ∷ []) password Sha256 text_of_sha256) }

@@ -10,7 +10,7 @@ mod message_integrity_sha256;
 mod userhash;
 
 pub use compare::same_bytes;
-pub use covered::{fingerprint_at, hmac_sha1_at, hmac_sha256_at};
+pub use covered::{beginning, fingerprint_at};
 pub use fingerprint::Fingerprint;
 pub use laws::{
     fingerprint_is_read_back, integrity_is_read_back, integrity_sha256_is_read_back,

@@ -28,10 +28,9 @@ pub use alternate_domain::AlternateDomain;
 pub use alternate_server::{AlternateServer, AlternateServerKind};
 pub use error_code::{ErrorCode, ErrorCodeBuilder};
 pub use integrity::{
-    Fingerprint, MessageIntegrity, MessageIntegritySha256, Userhash, fingerprint_at,
-    fingerprint_is_read_back, hmac_sha1_at, hmac_sha256_at, integrity_is_read_back,
-    integrity_sha256_is_read_back, integrity_types_are_read_back, same_bytes,
-    userhash_is_read_back,
+    Fingerprint, MessageIntegrity, MessageIntegritySha256, Userhash, beginning, fingerprint_at,
+    fingerprint_is_read_back, integrity_is_read_back, integrity_sha256_is_read_back,
+    integrity_types_are_read_back, same_bytes, userhash_is_read_back,
 };
 pub use kinds::{
     AddressAttribute, AttributeKind, BytesAttribute, EmptyAttribute, NumberAttribute,

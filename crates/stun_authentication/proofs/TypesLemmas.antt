@@ -5,11 +5,12 @@ use Rattle.std.specs.List.{list_any}
 use Rattle.std.specs.Option.{option_or}
 use Rattle.std.proofs.lemmas.Bool.{or_parts, or_from, cond-false, eq-eqb, ne_eqb}
 use Rattle.std.proofs.lemmas.List.Folds.{list_any-append, find-append}
+use Rattle.stun_grammar.specs.declared.integrity_algorithm.IntegrityAlgorithm.{IntegrityAlgorithm}
 use Rattle.stun_grammar.specs.declared.integrity_algorithm.IntegrityAlgorithm.TheVariants.{Sha1, Sha256}
 use Rattle.stun_grammar.specs.Adding.{first_of}
 use Rattle.stun_grammar.specs.AttributeTypes.{MESSAGE_INTEGRITY, MESSAGE_INTEGRITY_SHA256, FINGERPRINT, is_ending, IsOrdinary}
 use Rattle.stun_grammar.specs.ScannedOrder.{has}
-use Rattle.stun_grammar.specs.Steps.{Step, add, sign, finger, barring_types}
+use Rattle.stun_grammar.specs.Steps.{Step, add, sign, finger, barring_types, sign_given, signing_bars}
 
 none_found : (p : ℕ → Bool) (xs : List ℕ) → list_any p xs ≡ false → find p xs ≡ None
 none_found p [] e = refl
@@ -51,10 +52,14 @@ no_sha256 t clear = or_from (eqb MESSAGE_INTEGRITY_SHA256 t) (has t (FINGERPRINT
 no_integrity : (t : ℕ) → NoEnding t → has t (MESSAGE_INTEGRITY ∷ (MESSAGE_INTEGRITY_SHA256 ∷ (FINGERPRINT ∷ []))) ≡ false
 no_integrity t clear = or_from (eqb MESSAGE_INTEGRITY t) (has t (MESSAGE_INTEGRITY_SHA256 ∷ (FINGERPRINT ∷ []))) (flip MESSAGE_INTEGRITY t clear.integrity) (no_sha256 t clear)
 
+signing_none : (algorithm : IntegrityAlgorithm) (t : ℕ) → NoEnding t → has t (signing_bars algorithm) ≡ false
+signing_none Sha1 t clear = no_integrity t clear
+signing_none Sha256 t clear = no_sha256 t clear
+
 barred_none : (step : Step) (t : ℕ) → is_ending t ≡ false → has t (barring_types step) ≡ false
 barred_none (add type value) t e = no_integrity t (no_ending t e)
-barred_none (sign Sha1 key) t e = no_integrity t (no_ending t e)
-barred_none (sign Sha256 key) t e = no_sha256 t (no_ending t e)
+barred_none (sign algorithm key) t e = signing_none algorithm t (no_ending t e)
+barred_none (sign_given algorithm hmac) t e = signing_none algorithm t (no_ending t e)
 barred_none finger t e = no_print t (no_ending t e)
 
 -- ordinary attributes bar no step

@@ -9,7 +9,7 @@ use Rattle.stun_grammar.specs.declared.integrity_algorithm.IntegrityAlgorithm.{I
 use Rattle.stun_grammar.specs.Adding.{grown_length, room_refusal, add_refusal}
 use Rattle.stun_grammar.specs.Attributes.{Attribute, attribute_length}
 use Rattle.stun_grammar.specs.AttributeTypes.{FINGERPRINT, is_ending}
-use Rattle.stun_grammar.specs.Steps.{Step, add, sign, finger, with_step, value_length}
+use Rattle.stun_grammar.specs.Steps.{Step, add, sign, finger, with_step, value_length, sign_given}
 use Rattle.stun_grammar.specs.Verdicts.{type_of_algorithm}
 use Rattle.stun_grammar.specs.Writing.{message_encoding}
 use Rattle.stun_keys.specs.Keys.{serves}
@@ -41,6 +41,7 @@ FailsFor refusal result =
 abbrev pub step_type : Step → ℕ
 step_type (add type value) = type
 step_type (sign algorithm key) = type_of_algorithm algorithm
+step_type (sign_given algorithm hmac) = type_of_algorithm algorithm
 step_type finger = FINGERPRINT
 
 -- how many bytes steps append

@@ -162,6 +162,13 @@ impl NonceMaker {
         })
     }
 
+    /// Returns what the nonces say of the server.
+    pub fn features(&self) -> SecurityFeatures
+        ensures { result ≡ (minting_of self.now).features }
+    {
+        self.features
+    }
+
     /// The HMAC of a nonce that begins so.
     fn mac(&self, beginning: &[u8], client: &SocketAddr) -> [u8; 32]
         ensures { result ≡ hmac Sha256 (key_bytes self.now.secret)

@@ -1,15 +1,15 @@
 -- Why a step is refused: what blocks it depends on its kind alone, and a step that is not refused
 -- fits.
-use Rattle.std.proofs.Common.{◌≡◌, ℕ, ◌≤◌, Bool, true, false, List, [], Option, None, Some, refl, sym, ap, ◌∙◌, inl, inr}
+use Rattle.std.proofs.Common.{◌≡◌, ℕ, ◌≤◌, Bool, true, false, List, [], length, Option, None, Some, refl, sym, ap, ◌∙◌, inl, inr}
 use Rattle.std.specs.Prelude.{nat_lt, if◌then◌else◌}
 use Rattle.std.specs.Option.{option_or, option_map, option_map_or}
 use Rattle.std.proofs.lemmas.Bool.{cases_lt, cond-false, lt-ltb, le-ltb, ltb-false}
 use Rattle.stun_grammar.specs.declared.error.StunWriteError.{StunWriteError}
 use Rattle.stun_grammar.specs.declared.error.StunWriteError.TheVariants.{TooLarge, TooSmall}
 use Rattle.stun_grammar.specs.Writing.{greatest_length}
+use Rattle.stun_grammar.specs.Hmac.{digest_length}
 use Rattle.stun_grammar.specs.declared.integrity_algorithm.IntegrityAlgorithm.{IntegrityAlgorithm}
-use Rattle.stun_grammar.specs.declared.integrity_algorithm.IntegrityAlgorithm.TheVariants.{Sha1, Sha256}
-use Rattle.stun_grammar.specs.Steps.{Step, add, sign, value_length, barring_types}
+use Rattle.stun_grammar.specs.Steps.{Step, add, sign, sign_given, value_length, barring_types}
 use Rattle.stun_grammar.specs.Adding.{grown_length, first_of, Fits, exists_refusal, order_refusal, room_refusal, add_refusal}
 
 pub ordinary_barred : (type : ℕ) (value types : List ℕ) → order_refusal (add 0 []) types ≡ order_refusal (add type value) types
@@ -18,8 +18,18 @@ ordinary_barred type value types = refl
 
 pub signing_barred : (algorithm : IntegrityAlgorithm) (key types : List ℕ) → order_refusal (sign algorithm []) types ≡ order_refusal (sign algorithm key) types
 unfolding order_refusal
-signing_barred Sha1 key types = refl
-signing_barred Sha256 key types = refl
+signing_barred algorithm key types = refl
+
+pub given_barred : (algorithm : IntegrityAlgorithm) (given types : List ℕ) → order_refusal (sign algorithm []) types ≡ order_refusal (sign_given algorithm given) types
+unfolding order_refusal
+given_barred algorithm given types = refl
+
+-- so a given HMAC is refused as a signature with a key
+pub given_refused : (algorithm : IntegrityAlgorithm) (given types : List ℕ) (len : ℕ) (greatest : Option ℕ) → length given ≡ digest_length algorithm
+    → add_refusal (sign_given algorithm given) types len greatest ≡ add_refusal (sign algorithm []) types len greatest
+given_refused algorithm given types len greatest is =
+    ap (λ (o : Option StunWriteError). option_or o (room_refusal len greatest (grown_length len (length given)))) (sym (given_barred algorithm given types))
+    ∙ ap (λ (n : ℕ). option_or (order_refusal (sign algorithm []) types) (room_refusal len greatest (grown_length len n))) is
 
 -- if a step is not refused, there is a header, and the longer message fits the writer and the
 -- length field

@@ -1,7 +1,7 @@
 -- The content of a message that validates is a sender's who signed the covered bytes, or nobody
 -- signed them.
-use Rattle.std.proofs.Common.{◌≡◌, ℕ, suc, ◌^◌, ◌<◌, Bool, true, cond, eqb, List, [], ◌∷◌, ◌++◌, length, Option, None, refl, sym, ap, subst, ◌∙◌, arith, ◌⊎◌, inl, inr}
-use Rattle.std.specs.Prelude.{nat_eq, Contains, ◌≢◌}
+use Rattle.std.proofs.Common.{◌≡◌, ℕ, suc, ◌^◌, ◌<◌, Bool, true, false, cond, eqb, List, [], ◌∷◌, ◌++◌, length, Option, None, refl, sym, ap, subst, ◌∙◌, arith, ◌⊎◌, inl, inr}
+use Rattle.std.specs.Prelude.{nat_eq, Contains, ◌≢◌, ◌&&◌}
 use Rattle.std.specs.List.{AllByRecursion}
 use Rattle.std.specs.Cmp.Lexicographic.{pointwise}
 use Rattle.std.proofs.lemmas.Bool.{cases_Bool, and_parts, eqb-true}
@@ -10,23 +10,31 @@ use Rattle.std.proofs.lemmas.Bool.Decides.{Decides-eqb}
 use Rattle.stun_grammar.specs.declared.integrity_algorithm.IntegrityAlgorithm.{IntegrityAlgorithm}
 use Rattle.stun_grammar.specs.declared.integrity_algorithm.IntegrityAlgorithm.TheVariants.{Sha1, Sha256}
 use Rattle.stun_grammar.specs.Numbers.{IsBytes}
-use Rattle.stun_grammar.specs.Attributes.{Attribute, IsAttribute}
+use Rattle.stun_grammar.specs.Attributes.{Attribute, IsAttribute, canonical}
 use Rattle.stun_grammar.specs.Chains.{placed}
 use Rattle.stun_grammar.specs.Hmac.{digest_length}
 use Rattle.stun_grammar.specs.Verdicts.{type_of_algorithm, covered_bytes, is_checked_type, Validates}
 use Rattle.stun_grammar.specs.Authentic.{Content, content, content_through, authentic}
 use Rattle.stun_grammar.specs.Writing.{message_encoding}
-use Rattle.stun_grammar.specs.Steps.{Step, add, sign, finger, appended_by, with_step, IsEncodable}
+use Rattle.stun_grammar.specs.Steps.{Step, add, sign, sign_given, finger, appended_by, integrity_value, with_step, IsEncodable}
 use Rattle.stun_grammar.specs.Sending.{Sent, IsEncodableSent}
 use Rattle.stun_grammar.specs.Origin.{Signature, signs, signed_from, signed, reported, IsUnsigned, ComesFrom}
 use Rattle.stun_grammar.proofs.ShowingLemmas.{AllByRecursion-append}
 use Rattle.stun_grammar.proofs.AuthenticContentLemmas.{content_of, local, local_through}
-use Rattle.stun_grammar.proofs.StepsSignedLemmas.{appended_is, authentic_encoding}
+use Rattle.stun_grammar.proofs.StepsSignedLemmas.{appended_is, authentic_encoding, given_signs}
 
 pub step_each : (type id : ℕ) (before : List Attribute) (step : Step) → AllByRecursion IsAttribute before → IsEncodable step → AllByRecursion IsAttribute (with_step type id before step)
 step_each type id before step each lawful =
     let message = message_encoding type id before in
     AllByRecursion-append IsAttribute before (appended_by step message ∷ []) each (appended_is step message lawful, tt)
+
+and_both : (x y : Bool) → x ≡ true → y ≡ true → (x && y) ≡ true
+and_both true true e f = refl
+and_both true false e f = absurd cc
+and_both false y e f = absurd cc
+
+same_number : (n : ℕ) → eqb n n ≡ true
+same_number n = (Decides-eqb n n).1 refl
 
 same_algorithm : (a b : IntegrityAlgorithm) → type_of_algorithm a ≡ type_of_algorithm b → a ≡ b
 same_algorithm Sha1 Sha1 e = refl
@@ -34,12 +42,28 @@ same_algorithm Sha1 Sha256 e = absurd (omega (arith, e))
 same_algorithm Sha256 Sha1 e = absurd (omega (arith, e))
 same_algorithm Sha256 Sha256 e = refl
 
-signs_is : (a : IntegrityAlgorithm) (key : List ℕ) (b : IntegrityAlgorithm) (k : List ℕ) → signs a key (sign b k) ≡ true → sign a key ≡ sign b k
-signs_is a key b k e =
+signs_is : (a : IntegrityAlgorithm) (key c : List ℕ) (b : IntegrityAlgorithm) (k : List ℕ) → signs a key c (sign b k) ≡ true → sign a key ≡ sign b k
+signs_is a key c b k e =
     let both = and_parts (eqb (type_of_algorithm b) (type_of_algorithm a)) (pointwise nat_eq k key) e in
     let p : b ≡ a = same_algorithm b a (eqb-true _ _ both.0) in
     let q : k ≡ key = (slice_eq-Decides Decides-eqb k key _ refl).0 both.1 in
     ap (λ (x : IntegrityAlgorithm). sign x key) (sym p) ∙ ap (sign b) (sym q)
+
+-- a given HMAC that is the key's signs as the key does
+given_is : (a : IntegrityAlgorithm) (key message : List ℕ) (b : IntegrityAlgorithm) (given : List ℕ)
+    → signs a key (covered_bytes message (length message) (digest_length a)) (sign_given b given) ≡ true → appended_by (sign a key) message ≡ appended_by (sign_given b given) message
+unfolding appended_by
+given_is a key message b given e =
+    let value = integrity_value message key a in
+    let both = and_parts (eqb (type_of_algorithm b) (type_of_algorithm a)) (pointwise nat_eq given value) e in
+    let p : type_of_algorithm b ≡ type_of_algorithm a = eqb-true _ _ both.0 in
+    let q : given ≡ value = (slice_eq-Decides Decides-eqb given value _ refl).0 both.1 in
+    ap (λ (v : List ℕ). canonical (type_of_algorithm a) v) (sym q) ∙ ap (λ (t : ℕ). canonical t given) (sym p)
+
+-- the signatures of one step, and of those after it
+one_more : (P : Signature → Type 0) (passes : Bool) (s : Signature) (later : List Signature) → (passes ≡ true → P s) → AllByRecursion P later → AllByRecursion P (cond passes (s ∷ []) [] ++ later)
+one_more P true s later one rest = (one refl, rest)
+one_more P false s later one rest = rest
 
 -- the bytes that a sender signs determine the sender's message through the integrity attribute that
 -- signs them
@@ -57,12 +81,28 @@ signed_reported type id before (sign b k ∷ steps) key a t i each lawful =
     let s : Signature = record { covered = covered_bytes message (length message) (digest_length a); through = through } in
     let P : Signature → Type 0 = λ x. authentic x.covered key a ≡ content_of type id (placed 20 x.through) in
     let later = signed_reported type id through steps key a t i (step_each type id before (sign b k) each tt) lawful.1 in
-    elim (cases_Bool (signs a key (sign b k))) [
-      | inl passed ↦
-          let one : P s = authentic_encoding type id before a key t i each ∙ ap (λ (x : Step). content_of type id (placed 20 (with_step type id before x))) (signs_is a key b k passed) in
-          subst (λ (x : Bool). AllByRecursion P (cond x (s ∷ []) [] ++ signed_from type id through steps key a)) (sym passed) (one, later)
-      | inr failed ↦ subst (λ (x : Bool). AllByRecursion P (cond x (s ∷ []) [] ++ signed_from type id through steps key a)) (sym failed) later
-    ]
+    one_more P (signs a key s.covered (sign b k)) s (signed_from type id through steps key a)
+    (λ passed. authentic_encoding type id before a key t i each ∙ ap (λ (x : Step). content_of type id (placed 20 (with_step type id before x))) (signs_is a key s.covered b k passed)) later
+signed_reported type id before (sign_given b given ∷ steps) key a t i each lawful =
+    let message = message_encoding type id before in
+    let through = with_step type id before (sign_given b given) in
+    let s : Signature = record { covered = covered_bytes message (length message) (digest_length a); through = through } in
+    let P : Signature → Type 0 = λ x. authentic x.covered key a ≡ content_of type id (placed 20 x.through) in
+    let later = signed_reported type id through steps key a t i (step_each type id before (sign_given b given) each lawful.0) lawful.1 in
+    one_more P (signs a key s.covered (sign_given b given)) s (signed_from type id through steps key a)
+    (λ passed. authentic_encoding type id before a key t i each ∙ ap (λ (x : Attribute). content_of type id (placed 20 (before ++ x ∷ []))) (given_is a key message b given passed)) later
+
+-- a step that is given the key's HMAC signs the same bytes as one with the key
+pub given_counts : (type id : ℕ) (before : List Attribute) (steps : List Step) (a : IntegrityAlgorithm) (key given : List ℕ) → given ≡ integrity_value (message_encoding type id before) key a
+    → signed_from type id before (sign_given a given ∷ steps) key a ≡ signed_from type id before (sign a key ∷ steps) key a
+unfolding signed_from
+given_counts type id before steps a key given is =
+    let message = message_encoding type id before in
+    let c = covered_bytes message (length message) (digest_length a) in
+    let own : signs a key c (sign a key) ≡ true = and_both (eqb (type_of_algorithm a) (type_of_algorithm a)) (pointwise nat_eq key key) (same_number (type_of_algorithm a)) ((slice_eq-Decides Decides-eqb key key _ refl).1 refl) in
+    let other : signs a key c (sign_given a given) ≡ true = and_both (eqb (type_of_algorithm a) (type_of_algorithm a)) (pointwise nat_eq given (integrity_value message key a)) (same_number (type_of_algorithm a)) ((slice_eq-Decides Decides-eqb given (integrity_value message key a) _ refl).1 is) in
+    let through : with_step type id before (sign_given a given) ≡ with_step type id before (sign a key) = ap (λ (x : Attribute). before ++ x ∷ []) (given_signs a key message given is) in
+    rw (own, other, through) refl
 
 -- ---- Among all messages that were sent
 

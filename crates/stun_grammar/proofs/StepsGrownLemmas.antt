@@ -17,7 +17,7 @@ use Rattle.stun_grammar.specs.Fingerprints.{ending_length_field, message_before,
 use Rattle.stun_grammar.specs.Checksums.{crc}
 use Rattle.stun_grammar.specs.declared.integrity_algorithm.IntegrityAlgorithm.TheVariants.{Sha1, Sha256}
 use Rattle.stun_grammar.specs.Numbers.{be16}
-use Rattle.stun_grammar.specs.Steps.{Step, add, sign, finger, appended_by, IsOrdinaryStep}
+use Rattle.stun_grammar.specs.Steps.{Step, add, sign, sign_given, finger, appended_by, IsOrdinaryStep}
 use Rattle.stun_grammar.specs.Adding.{appended}
 use Rattle.stun_grammar.proofs.WritingLemmas.{right_passes}
 use Rattle.stun_grammar.proofs.ParsingLemmas.{parse-body, find_none, find_first, placed-append}
@@ -127,6 +127,8 @@ unfolding appended_by
 finger_value message (add type value) plain is = absurd (plain.2 is)
 finger_value message (sign Sha1 key) plain is = absurd (omega (arith, is))
 finger_value message (sign Sha256 key) plain is = absurd (omega (arith, is))
+finger_value message (sign_given Sha1 given) plain is = absurd (omega (arith, is))
+finger_value message (sign_given Sha256 given) plain is = absurd (omega (arith, is))
 finger_value message finger plain is = refl
 
 right_by : (d : List ℕ) (offset : ℕ) (value : List ℕ) → value ≡ fingerprint_value d offset → fingerprint_fault d offset value ≡ None

@@ -20,8 +20,8 @@ use Rattle.stun_grammar.specs.Showing.{shown}
 use Rattle.stun_grammar.specs.Fingerprints.{fingerprint_fault, first_fingerprint_fault}
 use Rattle.stun_grammar.specs.Verdicts.{type_of_algorithm, is_checked_type, verdict}
 use Rattle.stun_grammar.specs.Writing.{message_encoding, IsWritable}
-use Rattle.stun_grammar.specs.Steps.{Step, add, sign, finger, appended_by, with_step, IsEncodable, IsOrdinaryStep, barring_types, value_length, is_signing}
-use Rattle.stun_grammar.specs.Sending.{body_from, Sent, body, sent_encoding, MayFollow, EachMayFollow, IsAccepted}
+use Rattle.stun_grammar.specs.Steps.{Step, add, sign, finger, appended_by, with_step, IsEncodable, IsOrdinaryStep, barring_types, value_length, is_signing, sign_given, signing_bars, SignsAs}
+use Rattle.stun_grammar.specs.Sending.{body_from, Sent, body, sent_encoding, MayFollow, EachMayFollow, IsAccepted, written_by}
 use Rattle.stun_grammar.proofs.AttributesLemmas.{length-encoding-is}
 use Rattle.stun_grammar.proofs.ShownOrderLemmas.{in_order-nil, is_ending-ordinary}
 use Rattle.stun_grammar.proofs.AddingRefusedLemmas.{no_refusal, not_barred}
@@ -144,17 +144,26 @@ not_ending t e =
     let parts = or_parts (eqb MESSAGE_INTEGRITY t) (has t (MESSAGE_INTEGRITY_SHA256 ∷ (FINGERPRINT ∷ []))) e in
     or_from (eqb t MESSAGE_INTEGRITY) (sha256_barred t) (flip MESSAGE_INTEGRITY t parts.0) (not_sha256 t parts.1)
 
+-- the types that an integrity attribute may not follow
+abbrev signing_barred_by : IntegrityAlgorithm → ℕ → Bool
+signing_barred_by Sha1 t = is_ending t
+signing_barred_by Sha256 t = sha256_barred t
+
+no_signing_bar : (algorithm : IntegrityAlgorithm) (ts : List ℕ) → find (λ t. has t (signing_bars algorithm)) ts ≡ None → list_any (signing_barred_by algorithm) ts ≡ false
+no_signing_bar Sha1 ts e = weaker (λ t. has t (signing_bars Sha1)) is_ending ts not_ending (find_nothing (λ t. has t (signing_bars Sha1)) ts e)
+no_signing_bar Sha256 ts e = weaker (λ t. has t (signing_bars Sha256)) sha256_barred ts not_sha256 (find_nothing (λ t. has t (signing_bars Sha256)) ts e)
+
 -- the types that a step may not follow
 abbrev pub is_barred : Step → ℕ → Bool
 is_barred (add type value) t = is_ending t
-is_barred (sign Sha1 key) t = is_ending t
-is_barred (sign Sha256 key) t = sha256_barred t
+is_barred (sign algorithm key) t = signing_barred_by algorithm t
+is_barred (sign_given algorithm hmac) t = signing_barred_by algorithm t
 is_barred finger t = is_print t
 
 pub none_bars : (step : Step) (ts : List ℕ) → find (λ t. has t (barring_types step)) ts ≡ None → list_any (is_barred step) ts ≡ false
 none_bars (add type value) ts e = weaker (λ t. has t (barring_types (add type value))) is_ending ts not_ending (find_nothing (λ t. has t (barring_types (add type value))) ts e)
-none_bars (sign Sha1 key) ts e = weaker (λ t. has t (barring_types (sign Sha1 key))) is_ending ts not_ending (find_nothing (λ t. has t (barring_types (sign Sha1 key))) ts e)
-none_bars (sign Sha256 key) ts e = weaker (λ t. has t (barring_types (sign Sha256 key))) sha256_barred ts not_sha256 (find_nothing (λ t. has t (barring_types (sign Sha256 key))) ts e)
+none_bars (sign algorithm key) ts e = no_signing_bar algorithm ts e
+none_bars (sign_given algorithm hmac) ts e = no_signing_bar algorithm ts e
 none_bars finger ts e = weaker (λ t. has t (barring_types finger)) is_print ts not_print (find_nothing (λ t. has t (barring_types finger)) ts e)
 
 -- ---- One more step keeps a message writable
@@ -165,18 +174,26 @@ types_push xs a = map-append (λ x. x.type) xs (a ∷ [])
 ordinary_print : (x : ℕ) → is_ending x ≡ false → is_print x ≡ false
 ordinary_print x e = (or_parts (eqb x MESSAGE_INTEGRITY_SHA256) (is_print x) (or_parts (eqb x MESSAGE_INTEGRITY) _ e).1).1
 
+integrity_ordered : (algorithm : IntegrityAlgorithm) (ks : List ℕ) → in_order ks ≡ true → list_any (signing_barred_by algorithm) ks ≡ false → in_order (ks ++ type_of_algorithm algorithm ∷ []) ≡ true
+integrity_ordered Sha1 ks ordered none = push_integrity ks none
+integrity_ordered Sha256 ks ordered none = push_sha256 ks ordered none
+
 pub step_ordered : (message : List ℕ) (step : Step) (ks : List ℕ) → in_order ks ≡ true → list_any (is_barred step) ks ≡ false → IsOrdinaryStep step → in_order (ks ++ (appended_by step message).type ∷ []) ≡ true
 unfolding appended_by
 step_ordered message (add type value) ks ordered none plain = push_ordinary ks type none (is_ending-ordinary type plain.0 plain.1 plain.2)
-step_ordered message (sign Sha1 key) ks ordered none plain = push_integrity ks none
-step_ordered message (sign Sha256 key) ks ordered none plain = push_sha256 ks ordered none
+step_ordered message (sign algorithm key) ks ordered none plain = integrity_ordered algorithm ks ordered none
+step_ordered message (sign_given algorithm hmac) ks ordered none plain = integrity_ordered algorithm ks ordered none
 step_ordered message finger ks ordered none plain = push_fingerprint ks ordered none
+
+no_print_there : (algorithm : IntegrityAlgorithm) (ts : List ℕ) → list_any (signing_barred_by algorithm) ts ≡ false → has FINGERPRINT ts ≡ false
+no_print_there Sha1 ts none = weaker is_ending is_print ts ordinary_print none
+no_print_there Sha256 ts none = weaker sha256_barred is_print ts (λ x e. (or_parts (eqb x MESSAGE_INTEGRITY_SHA256) (is_print x) e).1) none
 
 -- a step that may follow these types follows no FINGERPRINT
 pub none_prints : (step : Step) (ts : List ℕ) → list_any (is_barred step) ts ≡ false → has FINGERPRINT ts ≡ false
 none_prints (add t v) ts none = weaker is_ending is_print ts ordinary_print none
-none_prints (sign Sha1 key) ts none = weaker is_ending is_print ts ordinary_print none
-none_prints (sign Sha256 key) ts none = weaker sha256_barred is_print ts (λ x e. (or_parts (eqb x MESSAGE_INTEGRITY_SHA256) (is_print x) e).1) none
+none_prints (sign algorithm key) ts none = no_print_there algorithm ts none
+none_prints (sign_given algorithm hmac) ts none = no_print_there algorithm ts none
 none_prints finger ts none = none
 
 -- a message without a FINGERPRINT has none that does not match
@@ -186,12 +203,16 @@ without type id xs a none one =
     let all : has FINGERPRINT (types (xs ++ a ∷ [])) ≡ false = ap (list_any is_print) (types_push xs a) ∙ list_any-append is_print (types xs) (a.type ∷ []) ∙ or_from _ _ none (or_from _ _ one refl) in
     ap (λ (o : Option Shown). option_map_or (λ y. fingerprint_fault (message_encoding type id (xs ++ a ∷ [])) y.offset y.value) o None) (find_none 20 (xs ++ a ∷ []) all)
 
+own_print : (algorithm : IntegrityAlgorithm) → is_print (type_of_algorithm algorithm) ≡ false
+own_print Sha1 = refl
+own_print Sha256 = refl
+
 step_right : (type id : ℕ) (xs : List Attribute) (step : Step) → list_any (is_barred step) (types xs) ≡ false → IsOrdinaryStep step
     → first_fingerprint_fault (message_encoding type id (with_step type id xs step)) (placed 20 (with_step type id xs step)) ≡ None
 unfolding appended_by
 step_right type id xs (add t v) none plain = without type id xs _ (none_prints (add t v) (types xs) none) (ordinary_print t (is_ending-ordinary t plain.0 plain.1 plain.2))
-step_right type id xs (sign Sha1 key) none plain = without type id xs _ (none_prints (sign Sha1 key) (types xs) none) refl
-step_right type id xs (sign Sha256 key) none plain = without type id xs _ (none_prints (sign Sha256 key) (types xs) none) refl
+step_right type id xs (sign algorithm key) none plain = without type id xs _ (no_print_there algorithm (types xs) none) (own_print algorithm)
+step_right type id xs (sign_given algorithm hmac) none plain = without type id xs _ (no_print_there algorithm (types xs) none) (own_print algorithm)
 step_right type id xs finger none plain = right_where_computed type id xs [] none
 
 -- the length of the message with one more step
@@ -261,6 +282,7 @@ step_quiet : (message : List ℕ) (step : Step) → is_signing step ≡ false �
 unfolding appended_by
 step_quiet message (add t v) e plain = ordinary_both t (is_ending-ordinary t plain.0 plain.1 plain.2)
 step_quiet message (sign a key) e plain = absurd cc
+step_quiet message (sign_given a hmac) e plain = absurd cc
 step_quiet message finger e plain = refl
 
 pub grows : (type id : ℕ) (before : List Attribute) (steps : List Step) → Grows type id before steps
@@ -289,17 +311,17 @@ record SignedAt (type id : ℕ) (attributes : List Attribute) (algorithm : Integ
   is : attributes ≡ before ++ appended_by (sign algorithm key) (message_encoding type id before) ∷ more
   quiet : list_any is_signing behind ≡ false → AllByRecursion IsOrdinaryStep behind → list_any both (types more) ≡ false
 
-signed_at : (type id : ℕ) (steps before : List Step) (algorithm : IntegrityAlgorithm) (key : List ℕ) (behind : List Step) → steps ≡ before ++ sign algorithm key ∷ behind
-    → SignedAt type id (body_from type id [] steps) algorithm key behind
+signed_at : (type id : ℕ) (steps before : List Step) (step : Step) (algorithm : IntegrityAlgorithm) (key : List ℕ) (behind : List Step) → steps ≡ before ++ step ∷ behind
+    → SignsAs step (written_by type id before) algorithm key → SignedAt type id (body_from type id [] steps) algorithm key behind
 unfolding body_from
-signed_at type id steps before algorithm key behind e =
+signed_at type id steps before step algorithm key behind e own =
     let prefix = body_from type id [] before in
     let a = appended_by (sign algorithm key) (message_encoding type id prefix) in
     let g = grows type id (prefix ++ a ∷ []) behind in
     record {
       before = prefix;
       more = g.more;
-      is = ap (body_from type id []) e ∙ body_from-append type id [] before (sign algorithm key ∷ behind) ∙ g.is ∙ append_assoc prefix (a ∷ []) g.more;
+      is = ap (body_from type id []) e ∙ body_from-append type id [] before (step ∷ behind) ∙ ap (λ (x : Attribute). body_from type id (prefix ++ x ∷ []) behind) own ∙ g.is ∙ append_assoc prefix (a ∷ []) g.more;
       quiet = g.quiet;
     }
 
@@ -315,11 +337,11 @@ own_type Sha1 = refl
 own_type Sha256 = refl
 
 -- a message validates with the key of the last step that signs
-pub last_validates : (sent : Sent) (before behind : List Step) (a : IntegrityAlgorithm) (key : IntegrityAlgorithm → List ℕ) → IsAccepted sent
-    → sent.steps ≡ before ++ sign a (key a) ∷ behind → list_any is_signing behind ≡ false → verdict (is_checked_type None) key (sent_encoding sent) ≡ Ok a
-last_validates sent before behind a key ok e none =
-    let at = signed_at sent.type sent.id sent.steps before a (key a) behind e in
-    let plain : AllByRecursion IsOrdinaryStep behind = (AllByRecursion-behind IsOrdinaryStep before (sign a (key a) ∷ behind) (subst (AllByRecursion IsOrdinaryStep) e ok.ordinary)).1 in
+pub last_validates : (sent : Sent) (before behind : List Step) (step : Step) (a : IntegrityAlgorithm) (key : IntegrityAlgorithm → List ℕ) → IsAccepted sent
+    → sent.steps ≡ before ++ step ∷ behind → SignsAs step (written_by sent.type sent.id before) a (key a) → list_any is_signing behind ≡ false → verdict (is_checked_type None) key (sent_encoding sent) ≡ Ok a
+last_validates sent before behind step a key ok e own none =
+    let at = signed_at sent.type sent.id sent.steps before step a (key a) behind e own in
+    let plain : AllByRecursion IsOrdinaryStep behind = (AllByRecursion-behind IsOrdinaryStep before (step ∷ behind) (subst (AllByRecursion IsOrdinaryStep) e ok.ordinary)).1 in
     validates_at sent (body sent) a key behind (is_checked_type None) at (is_writable sent ok) (own_type a) (at.quiet none plain)
 
 sign_type : (message : List ℕ) (b : IntegrityAlgorithm) (k : List ℕ) → (appended_by (sign b k) message).type ≡ type_of_algorithm b
@@ -327,12 +349,12 @@ unfolding appended_by
 sign_type message b k = refl
 
 -- a message validates with a key that was made for the algorithm of any step that signs
-pub each_validates : (sent : Sent) (before behind : List Step) (a : IntegrityAlgorithm) (key : IntegrityAlgorithm → List ℕ) → IsAccepted sent
-    → sent.steps ≡ before ++ sign a (key a) ∷ behind → verdict (is_checked_type (Some a)) key (sent_encoding sent) ≡ Ok a
-each_validates sent before behind a key ok e =
-    let at = signed_at sent.type sent.id sent.steps before a (key a) behind e in
+pub each_validates : (sent : Sent) (before behind : List Step) (step : Step) (a : IntegrityAlgorithm) (key : IntegrityAlgorithm → List ℕ) → IsAccepted sent
+    → sent.steps ≡ before ++ step ∷ behind → SignsAs step (written_by sent.type sent.id before) a (key a) → verdict (is_checked_type (Some a)) key (sent_encoding sent) ≡ Ok a
+each_validates sent before behind step a key ok e own =
+    let at = signed_at sent.type sent.id sent.steps before step a (key a) behind e own in
     let so = is_writable sent ok in
-    let own = sign_type (message_encoding sent.type sent.id at.before) a (key a) in
+    let typed = sign_type (message_encoding sent.type sent.id at.before) a (key a) in
     let order : in_order (types at.before ++ type_of_algorithm a ∷ types at.more) ≡ true =
-    ap (λ (k : ℕ). in_order (types at.before ++ k ∷ types at.more)) (sym own) ∙ ap in_order (sym (ap types at.is ∙ map-append (λ x. x.type) at.before _)) ∙ so.ordered in
+    ap (λ (k : ℕ). in_order (types at.before ++ k ∷ types at.more)) (sym typed) ∙ ap in_order (sym (ap types at.is ∙ map-append (λ x. x.type) at.before _)) ∙ so.ordered in
     validates_at sent (body sent) a key behind (is_checked_type (Some a)) at so (wanted_own a) (none_same a (types at.more) (order_split (types at.before) (type_of_algorithm a) (types at.more) order).1)

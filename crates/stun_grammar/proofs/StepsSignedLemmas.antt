@@ -16,7 +16,7 @@ use Rattle.stun_grammar.specs.Hmac.{digest_length, hmac}
 use Rattle.stun_grammar.specs.Verdicts.{type_of_algorithm, algorithm_of, last_shown, hmac_fault, covered_bytes, verdict}
 use Rattle.stun_grammar.specs.Authentic.{stated_hmac_length, checked, authentic}
 use Rattle.stun_grammar.specs.Writing.{message_encoding, IsWritable}
-use Rattle.stun_grammar.specs.Steps.{Step, add, sign, finger, appended_by, with_step, IsEncodable, value_length}
+use Rattle.stun_grammar.specs.Steps.{Step, add, sign, sign_given, finger, appended_by, with_step, IsEncodable, value_length, integrity_value, SignsAs}
 use Rattle.stun_grammar.proofs.ChainsLemmas.{chain-encodings}
 use Rattle.stun_grammar.proofs.ParsingLemmas.{placed-append}
 use Rattle.stun_grammar.proofs.HmacLemmas.{hmac_has_length}
@@ -43,6 +43,7 @@ pub value_is : (step : Step) (message : List ℕ) → length (appended_by step m
 unfolding appended_by
 value_is (add type value) message = refl
 value_is (sign a key) message = hmac_has_length a key (covered_bytes message (length message) (digest_length a))
+value_is (sign_given a given) message = refl
 value_is finger message = length-fingerprint message (length message)
 
 -- what a step appends is an attribute
@@ -52,6 +53,7 @@ appended_is (add type value) message ok = canonical_is type value ok.0 ok.1
 appended_is (sign a key) message ok =
     let c = covered_bytes message (length message) (digest_length a) in
     canonical_is (type_of_algorithm a) (hmac a key c) (digest_is a).0 (omega (arith, hmac_has_length a key c, (digest_is a).2))
+appended_is (sign_given a given) message ok = canonical_is (type_of_algorithm a) given (digest_is a).0 (omega (arith, ok, (digest_is a).2))
 appended_is finger message ok = canonical_is FINGERPRINT (fingerprint_value message (length message)) (omega arith) (omega (arith, length-fingerprint message (length message)))
 
 -- covered bytes determine the message in which they were signed, through the attribute that signed
@@ -104,3 +106,8 @@ signed_validates type id before behind a key wanted w asked none =
     ∙ take_all (length value) value (omega arith)) in
     let test : value_test key d x ≡ true = (slice_eq-Decides Decides-eqb value (take (length value) (hmac (algorithm_of (type_of_algorithm a)) (key (algorithm_of (type_of_algorithm a))) (covered_bytes d o (length value)))) _ refl).1 right in
     verdict_ok wanted key d x last lawful test ∙ ap Ok same
+
+-- a step that is given the HMAC under a key signs as one with that key
+pub given_signs : (a : IntegrityAlgorithm) (key message given : List ℕ) → given ≡ integrity_value message key a → SignsAs (sign_given a given) message a key
+unfolding appended_by
+given_signs a key message given is = ap (canonical (type_of_algorithm a)) is

@@ -22,7 +22,7 @@ use Rattle.stun_grammar.specs.ScannedOrder.{has}
 use Rattle.stun_grammar.specs.AttributeTypes.{FINGERPRINT}
 use Rattle.stun_grammar.specs.Showing.{frame_fault, shown_prefix}
 use Rattle.stun_grammar.specs.Fingerprints.{message_before}
-use Rattle.stun_grammar.specs.Verdicts.{type_of_algorithm, algorithm_of, is_checked_type, last_shown, hmac_fault, covered_bytes, verdict_on, verdict}
+use Rattle.stun_grammar.specs.Verdicts.{type_of_algorithm, algorithm_of, is_checked_type, last_shown, hmac_fault, covered_bytes, verdict_on, verdict, verdict_by, GivesHmac}
 use Rattle.stun_grammar.specs.Lengths.{range_fault}
 use Rattle.stun_grammar.specs.Authentic.{stated_hmac_length}
 use Rattle.stun_grammar.specs.Hmac.{digest_length, hmac}
@@ -304,10 +304,6 @@ pub verdict_missing : (wanted : ℕ → Bool) (key : IntegrityAlgorithm → List
 unfolding verdict
 verdict_missing wanted key d none = rw none refl
 
-pub verdict_unlawful : (wanted : ℕ → Bool) (key : IntegrityAlgorithm → List ℕ) (d : List ℕ) (x : Shown) (reported : StunParseError) → last_shown wanted d ≡ Some x → hmac_fault (algorithm_of x.type) (length x.value) ≡ Some reported → verdict wanted key d ≡ Err (Parse reported)
-unfolding verdict verdict_on
-verdict_unlawful wanted key d x reported last fault = rw (last, fault) refl
-
 -- the test of the value
 abbrev pub value_test : (IntegrityAlgorithm → List ℕ) → List ℕ → Shown → Bool
 value_test key d x = pointwise nat_eq x.value (take (length x.value) (hmac (algorithm_of x.type) (key (algorithm_of x.type)) (covered_bytes d x.offset (length x.value))))
@@ -315,3 +311,20 @@ value_test key d x = pointwise nat_eq x.value (take (length x.value) (hmac (algo
 pub verdict_ok : (wanted : ℕ → Bool) (key : IntegrityAlgorithm → List ℕ) (d : List ℕ) (x : Shown) → last_shown wanted d ≡ Some x → hmac_fault (algorithm_of x.type) (length x.value) ≡ None → value_test key d x ≡ true → verdict wanted key d ≡ Ok (algorithm_of x.type)
 unfolding verdict verdict_on
 verdict_ok wanted key d x last lawful test = rw (last, lawful, test) refl
+
+-- ---- The verdict by HMACs that are given
+
+pub verdict_keyed : (wanted : ℕ → Bool) (key : IntegrityAlgorithm → List ℕ) (d : List ℕ) → verdict wanted key d ≡ verdict_by wanted (λ a c. hmac a (key a) c) d
+unfolding verdict verdict_on verdict_by
+verdict_keyed wanted key d = refl
+
+-- only the HMAC of the covered bytes matters
+pub verdict_given : (wanted : ℕ → Bool) (key : IntegrityAlgorithm → List ℕ) (given : IntegrityAlgorithm → List ℕ → List ℕ) (d : List ℕ) → GivesHmac wanted key given d → verdict_by wanted given d ≡ verdict wanted key d
+unfolding verdict verdict_on verdict_by
+verdict_given wanted key given d gives = elim (none_or_some (last_shown wanted d)) [
+  | inl none ↦ rw none refl
+  | inr (x, some) ↦
+      let a = algorithm_of x.type in
+      let c = covered_bytes d x.offset (length x.value) in
+      let is : given a c ≡ hmac a (key a) c = rw some at gives in rw (some, is) refl
+]

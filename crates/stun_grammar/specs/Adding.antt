@@ -10,7 +10,7 @@ use Rattle.stun_grammar.specs.Numbers.{be16}
 use Rattle.stun_grammar.specs.ScannedOrder.{has}
 use Rattle.stun_grammar.specs.AttributeTypes.{FINGERPRINT, is_ending}
 use Rattle.stun_grammar.specs.Writing.{greatest_length}
-use Rattle.stun_grammar.specs.Steps.{Step, add, sign, finger, barring_types, value_length}
+use Rattle.stun_grammar.specs.Steps.{Step, add, sign, sign_given, finger, barring_types, value_length}
 use Rattle.stun_grammar.specs.Attributes.{attribute_encoding, attribute_length}
 
 -- ---- What is written
@@ -40,6 +40,8 @@ abbrev pub exists_refusal : Step → ℕ → StunWriteError
 exists_refusal (add type value) found =
     if found == FINGERPRINT then FingerprintExists else MessageIntegrityExists
 exists_refusal (sign algorithm key) found =
+    if found == FINGERPRINT then FingerprintExists else AttributeExists (record { 0 = found })
+exists_refusal (sign_given algorithm hmac) found =
     if found == FINGERPRINT then FingerprintExists else AttributeExists (record { 0 = found })
 exists_refusal finger found = AttributeExists (record { 0 = found })
 

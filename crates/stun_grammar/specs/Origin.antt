@@ -8,7 +8,8 @@ use Rattle.stun_grammar.specs.Chains.{placed}
 use Rattle.stun_grammar.specs.Verdicts.{type_of_algorithm}
 use Rattle.stun_grammar.specs.Authentic.{Content}
 use Rattle.stun_grammar.specs.Writing.{message_encoding}
-use Rattle.stun_grammar.specs.Steps.{Step, add, sign, finger, with_step, signed_bytes}
+use Rattle.stun_grammar.specs.Hmac.{hmac}
+use Rattle.stun_grammar.specs.Steps.{Step, add, sign, sign_given, finger, with_step, signed_bytes}
 use Rattle.stun_grammar.specs.Sending.{Sent}
 
 -- bytes that were signed, and the attributes of their message through the integrity attribute that
@@ -17,12 +18,16 @@ pub record Signature : Type 0 where
   pub covered : List ℕ
   pub through : List Attribute
 
--- whether a step signs with this algorithm and this key
-abbrev pub signs : IntegrityAlgorithm → List ℕ → Step → Bool
-signs algorithm key (add type value) = false
-signs algorithm key (sign a k) =
+-- whether a step that covers these bytes signs them with this algorithm and this key: with the key, or
+-- with an HMAC that is the key's
+abbrev pub signs : IntegrityAlgorithm → List ℕ → List ℕ → Step → Bool
+signs algorithm key covered (add type value) = false
+signs algorithm key covered (sign a k) =
     (type_of_algorithm a == type_of_algorithm algorithm) && pointwise nat_eq k key
-signs algorithm key finger = false
+signs algorithm key covered (sign_given a given) =
+    (type_of_algorithm a == type_of_algorithm algorithm)
+    && pointwise nat_eq given (hmac algorithm key covered)
+signs algorithm key covered finger = false
 
 -- what steps sign with a key and an algorithm, if the message has these attributes already
 unfoldable pub signed_from : ℕ → ℕ → List Attribute → List Step → List ℕ → IntegrityAlgorithm
@@ -31,8 +36,9 @@ signed_from type id before [] key algorithm = []
 signed_from type id before (step ∷ steps) key algorithm =
     let message = message_encoding type id before in
     let through = with_step type id before step in
-    (if signs algorithm key step
-    then record { covered = signed_bytes message algorithm; through = through } ∷ [] else [])
+    let covered = signed_bytes message algorithm in
+    (if signs algorithm key covered step
+    then record { covered = covered; through = through } ∷ [] else [])
     ++ signed_from type id through steps key algorithm
 
 -- what is signed in a message with a key and an algorithm

@@ -26,6 +26,10 @@ body sent = body_from sent.type sent.id [] sent.steps
 abbrev pub sent_encoding : Sent → List ℕ
 sent_encoding sent = message_encoding sent.type sent.id (body sent)
 
+-- the encoding of what these steps write
+abbrev pub written_by : ℕ → ℕ → List Step → List ℕ
+written_by type id steps = message_encoding type id (body_from type id [] steps)
+
 -- ---- The steps that are accepted
 
 -- a step may follow these attributes: a writer that takes any number of bytes does not refuse it

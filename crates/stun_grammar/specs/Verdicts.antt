@@ -1,5 +1,5 @@
 -- What validation returns (RFC 8489, sections 14.5 and 14.6).
-use Rattle.std.specs.Prelude.{◌≡◌, ℕ, ◌+◌, ◌%◌, Bool, ◌||◌, List, length, take, find, reverse, Option, Some, None, Result, Ok, Err, nat_eq, ◌==◌, if◌then◌else◌}
+use Rattle.std.specs.Prelude.{◌≡◌, ℕ, ◌+◌, ◌%◌, Bool, ◌||◌, List, length, take, find, reverse, Option, Some, None, IfSome, Result, Ok, Err, nat_eq, ◌==◌, if◌then◌else◌}
 use Rattle.std.specs.Cmp.Lexicographic.{pointwise}
 use Rattle.std.specs.Option.{option_map, option_map_or, option_or}
 use Rattle.stun_grammar.specs.declared.error.StunParseError.{StunParseError}
@@ -49,26 +49,53 @@ hmac_fault Sha256 n =
 abbrev pub covered_bytes : List ℕ → ℕ → ℕ → List ℕ
 covered_bytes d offset n = message_before d offset (4 + padded_length n)
 
--- ---- The verdict, if each algorithm has a key
+-- ---- The verdict, if a function gives the HMAC of an algorithm over the covered bytes
 
 -- the verdict on one integrity attribute: Ok if its value has an allowed length and is a prefix
--- of the HMAC of the covered bytes
-unfoldable pub verdict_on : (IntegrityAlgorithm → List ℕ) → List ℕ → Shown
+-- of the HMAC that is given for the covered bytes
+abbrev pub verdict_on_by : (IntegrityAlgorithm → List ℕ → List ℕ) → List ℕ → Shown
     → Result IntegrityAlgorithm ValidateError
-verdict_on key d x =
+verdict_on_by given d x =
     let algorithm = algorithm_of x.type in
     let n = length x.value in
     option_map_or (λ fault. Err (Parse fault)) (hmac_fault algorithm n) (
     if pointwise nat_eq x.value
-    (take n (hmac algorithm (key algorithm) (covered_bytes d x.offset n)))
+    (take n (given algorithm (covered_bytes d x.offset n)))
     then Ok algorithm else Err IntegrityFailed)
+
+-- a verdict on the last integrity attribute of a wanted type; the error if there is none
+abbrev pub verdict_on_last : (Shown → Result IntegrityAlgorithm ValidateError) → (ℕ → Bool)
+    → List ℕ → Result IntegrityAlgorithm ValidateError
+verdict_on_last on wanted d =
+    option_map_or on (last_shown wanted d)
+    (Err (Parse (MissingAttribute (record { 0 = MESSAGE_INTEGRITY }))))
+
+-- what validation returns by HMACs that are given
+unfoldable pub verdict_by : (ℕ → Bool) → (IntegrityAlgorithm → List ℕ → List ℕ) → List ℕ
+    → Result IntegrityAlgorithm ValidateError
+verdict_by wanted given d = verdict_on_last (verdict_on_by given d) wanted d
+
+-- ---- The verdict, if each algorithm has a key
+
+-- the verdict on one integrity attribute, by the HMACs under the keys
+unfoldable pub verdict_on : (IntegrityAlgorithm → List ℕ) → List ℕ → Shown
+    → Result IntegrityAlgorithm ValidateError
+verdict_on key d x = verdict_on_by (λ algorithm c. hmac algorithm (key algorithm) c) d x
 
 -- what validation returns: the verdict on the last integrity attribute of a wanted type
 unfoldable pub verdict : (ℕ → Bool) → (IntegrityAlgorithm → List ℕ) → List ℕ
     → Result IntegrityAlgorithm ValidateError
-verdict wanted key d =
-    option_map_or (verdict_on key d) (last_shown wanted d)
-    (Err (Parse (MissingAttribute (record { 0 = MESSAGE_INTEGRITY }))))
+verdict wanted key d = verdict_on_last (verdict_on key d) wanted d
+
+-- for the bytes that the last integrity attribute of a wanted type covers, the HMAC under the key
+-- is given
+abbrev pub GivesHmac : (ℕ → Bool) → (IntegrityAlgorithm → List ℕ)
+    → (IntegrityAlgorithm → List ℕ → List ℕ) → List ℕ → Type 0
+GivesHmac wanted key given d =
+    IfSome (last_shown wanted d) (λ x.
+    let algorithm = algorithm_of x.type in
+    let c = covered_bytes d x.offset (length x.value) in
+    given algorithm c ≡ hmac algorithm (key algorithm) c)
 
 -- the bytes that the last integrity attribute of a wanted type covers
 abbrev pub covered : (ℕ → Bool) → List ℕ → Option (List ℕ)

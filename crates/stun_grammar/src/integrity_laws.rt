@@ -15,13 +15,14 @@ ghost use Rattle.stun_grammar.specs.AttributeTypes.{FINGERPRINT};
 ghost use Rattle.stun_grammar.specs.Parsing.{parse_fault};
 ghost use Rattle.stun_grammar.specs.Showing.{shown};
 ghost use Rattle.stun_grammar.specs.Fingerprints.{first_fingerprint_fault};
-ghost use Rattle.stun_grammar.specs.Verdicts.{type_of_algorithm, is_checked_type, last_shown, verdict, Validates};
+ghost use Rattle.stun_grammar.specs.Verdicts.{type_of_algorithm, is_checked_type, last_shown, verdict, verdict_by, GivesHmac, Validates};
+ghost use Rattle.stun_grammar.specs.Hmac.{hmac};
 ghost use Rattle.stun_grammar.specs.Authentic.{IsLocal, content, content_through, shows_fingerprint, authentic, authentic_fingerprint, authentic_shown};
 ghost use Rattle.stun_grammar.specs.Carrying.{Carries, CarriesPrefix};
 ghost use Rattle.stun_grammar.specs.Writing.{message_encoding, IsWritable};
-ghost use Rattle.stun_grammar.specs.Steps.{Step, sign, with_step, IsEncodable, IsOrdinaryStep, value_length, is_signing};
-ghost use Rattle.stun_grammar.specs.Sending.{Sent, body, sent_encoding, MayFollow, IsEncodableSent, IsAccepted};
-ghost use Rattle.stun_grammar.specs.Origin.{Signature, signed, reported, IsUnsigned, ComesFrom};
+ghost use Rattle.stun_grammar.specs.Steps.{Step, sign, sign_given, with_step, IsEncodable, IsOrdinaryStep, value_length, is_signing, integrity_value, SignsAs};
+ghost use Rattle.stun_grammar.specs.Sending.{Sent, body, sent_encoding, written_by, MayFollow, IsEncodableSent, IsAccepted};
+ghost use Rattle.stun_grammar.specs.Origin.{Signature, signed, signed_from, reported, IsUnsigned, ComesFrom};
 ghost use Rattle.stun_grammar.specs.declared.integrity_algorithm.IntegrityAlgorithm.{IntegrityAlgorithm};
 
 /// The content of a message that validates is determined by the covered bytes, the key and the
@@ -122,6 +123,17 @@ pub fn integrity_has_origin()
         (signed sender (key a) a) }
 {}
 
+/// The verdict by a key is that by the HMACs under it, and of the HMACs only that of the covered
+/// bytes matters. So every law of the verdict by a key holds of the verdict by an HMAC that somebody
+/// else computed with that key.
+pub fn verdict_is_by_hmacs()
+    ensures keyed { (wanted : ℕ → Bool) (key : IntegrityAlgorithm → List ℕ) (d : List ℕ)
+        → verdict wanted key d ≡ verdict_by wanted (λ a c. hmac a (key a) c) d }
+    ensures given { (wanted : ℕ → Bool) (key : IntegrityAlgorithm → List ℕ)
+        (given : IntegrityAlgorithm → List ℕ → List ℕ) (d : List ℕ)
+        → GivesHmac wanted key given d → verdict_by wanted given d ≡ verdict wanted key d }
+{}
+
 /// A header alone is a message that may be written, and so is such a message with one more accepted
 /// step: it parses, and it is shown as it was written.
 pub fn step_is_written()
@@ -143,6 +155,18 @@ pub fn step_is_written()
         → verdict wanted key (message_encoding type id message) ≡ Ok a }
 {}
 
+/// A step that is given the HMAC under a key of what it covers signs as one with that key: it appends
+/// the same attribute, and counts among what was signed with the key.
+pub fn given_hmac_signs()
+    ensures appends { (a : IntegrityAlgorithm) (key message given : List ℕ)
+        → given ≡ integrity_value message key a → SignsAs (sign_given a given) message a key }
+    ensures counts { (type id : ℕ) (before : List Attribute) (steps : List Step)
+        (a : IntegrityAlgorithm) (key given : List ℕ)
+        → given ≡ integrity_value (message_encoding type id before) key a
+        → signed_from type id before (sign_given a given ∷ steps) key a
+        ≡ signed_from type id before (sign a key ∷ steps) key a }
+{}
+
 /// What accepted steps write parses, is shown as it was written, and validates.
 pub fn steps_are_read_back()
     ensures writable { (sent : Sent) → IsAccepted sent → IsWritable sent.type sent.id (body sent) }
@@ -152,14 +176,16 @@ pub fn steps_are_read_back()
     ensures fingerprint { (sent : Sent) → IsAccepted sent
         → first_fingerprint_fault (sent_encoding sent) (placed 20 (body sent)) ≡ None }
     // with the key of the last step that signs
-    ensures last { (sent : Sent) (before behind : List Step) (a : IntegrityAlgorithm)
+    ensures last { (sent : Sent) (before behind : List Step) (step : Step) (a : IntegrityAlgorithm)
         (key : IntegrityAlgorithm → List ℕ)
-        → IsAccepted sent → sent.steps ≡ before ++ sign a (key a) ∷ behind
+        → IsAccepted sent → sent.steps ≡ before ++ step ∷ behind
+        → SignsAs step (written_by sent.type sent.id before) a (key a)
         → list_any is_signing behind ≡ false
         → verdict (is_checked_type None) key (sent_encoding sent) ≡ Ok a }
     // with a key that was made for the algorithm of any step that signs
-    ensures own { (sent : Sent) (before behind : List Step) (a : IntegrityAlgorithm)
+    ensures own { (sent : Sent) (before behind : List Step) (step : Step) (a : IntegrityAlgorithm)
         (key : IntegrityAlgorithm → List ℕ)
-        → IsAccepted sent → sent.steps ≡ before ++ sign a (key a) ∷ behind
+        → IsAccepted sent → sent.steps ≡ before ++ step ∷ behind
+        → SignsAs step (written_by sent.type sent.id before) a (key a)
         → verdict (is_checked_type (Some a)) key (sent_encoding sent) ≡ Ok a }
 {}

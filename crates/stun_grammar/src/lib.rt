@@ -22,8 +22,9 @@ pub use attribute_type::{AttributeType, put_type_debug};
 pub use error::{AddError, StunParseError, StunWriteError, ValidateError};
 pub use integrity_algorithm::IntegrityAlgorithm;
 pub use integrity_laws::{
-    integrity_has_origin, integrity_is_exact, integrity_is_exact_with_key, integrity_is_local,
-    integrity_is_local_with_key, step_is_written, steps_are_read_back,
+    given_hmac_signs, integrity_has_origin, integrity_is_exact, integrity_is_exact_with_key,
+    integrity_is_local, integrity_is_local_with_key, step_is_written, steps_are_read_back,
+    verdict_is_by_hmacs,
 };
 pub use laws::{
     canonical_is_attribute, encoding_grows, encoding_is_read_back, incomplete_header,

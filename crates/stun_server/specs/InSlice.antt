@@ -7,6 +7,11 @@ use Rattle.stun_grammar.specs.declared.error.StunWriteError.TheVariants.{TooSmal
 abbrev pub overlaid : (text slice : List ℕ) → List ℕ
 overlaid text slice = text ++ drop (length text) slice
 
+-- what is returned for a text that is written at the start of a slice of this length
+abbrev pub written_in : (text : List ℕ) → (room : ℕ) → Result ℕ StunWriteError
+written_in text room =
+    if nat_lt room (length text) then Err (TooSmall (length text) room) else Ok (length text)
+
 -- what is returned for the reply that is owed, if one is, and the length of the slice
 abbrev pub answer_in : Option (List ℕ) → (room : ℕ) → Result (Option ℕ) StunWriteError
 answer_in None room = Ok None

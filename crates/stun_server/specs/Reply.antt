@@ -1,6 +1,6 @@
 -- What a server without credentials replies to a datagram (RFC 8489, sections 6.3, 6.3.1, 7 and 12).
 use Rattle.std.specs.Prelude.{ℕ, List, [], ◌∷◌, length, is_some, ◌==◌, if◌then◌else◌, Option, None, Some}
-use Rattle.std.specs.Option.{option_map_or}
+use Rattle.std.specs.Option.{option_map, option_map_or}
 use Rattle.std.specs.declared.net.socket_addr.SocketAddr.{SocketAddr}
 use Rattle.stun_grammar.specs.declared.attribute_type.AttributeType.{AttributeType}
 use Rattle.stun_grammar.specs.Headers.{type_field, id_field}
@@ -49,6 +49,10 @@ abbrev pub unfinished_reply : SocketAddr → List ℕ → List ℕ
 unfinished_reply source r =
     option_map_or (response ErrorClass r) (check_reply comprehended [] r)
     (response Success r (success_reply source r))
+
+-- the code of an error response
+abbrev pub reply_code : List ℕ → Option ℕ
+reply_code r = option_map (λ _. 420) (check_reply comprehended [] r)
 
 -- the same, finished
 abbrev pub binding_reply : SocketAddr → List ℕ → List ℕ

@@ -112,7 +112,7 @@ pub fn reply_into(
     ensures slice { slice.new ≡ slice_after (reply source datagram.now) slice.old }
 {
     match request_in(datagram) {
-        Some(request) => Reply::to(request, source).write_into(slice),
+        Some(request) => Ok(Some(Reply::to(request, source).write_into(slice)?)),
         None => Ok(None),
     }
 }

@@ -10,3 +10,4 @@ mod written;
 
 pub use binding::{reply, reply_into};
 pub use laws::replies_are_small;
+pub use written::Reply;

@@ -165,9 +165,8 @@ impl Protection {
         }
     }
 
-    /// Prepares the key, if there is one, for many HMACs, with memory from `alloc`: a request that
-    /// is signed with it and several responses are then validated faster
-    /// ([`IntegrityKey::prepare`]). Nothing else changes.
+    /// Prepares the key, if there is one and it isn't prepared ([`IntegrityKey::prepare`]), with
+    /// memory from `alloc`: its HMACs are then faster. Nothing else changes.
     ///
     /// # Errors
     ///

@@ -114,9 +114,9 @@ impl Transaction {
         }
     }
 
-    /// Prepares the key with which responses are validated, if there is one, with memory from
-    /// `alloc`. It pays for a transaction that is to receive more than two messages
-    /// ([`Protection::prepare`]); each message is taken or discarded as without it.
+    /// Prepares the key with which responses are validated, if there is one and it isn't prepared
+    /// ([`IntegrityKey::prepare`](stun_types::message::IntegrityKey::prepare)), with memory from
+    /// `alloc`. Each message is taken or discarded as without it.
     ///
     /// # Errors
     ///

@@ -7,6 +7,7 @@ pub mod IteratingLemmas
 pub mod ItemsLemmas
 mod IntegrityAtLemmas
 mod ValidatingLemmas
+mod GivenHmacsLemmas
 mod LookingUpLemmas
 mod FindingLemmas
 mod PrintedMessagesLemmas

@@ -11,13 +11,13 @@ use Rattle.stun_grammar.specs.declared.error.StunWriteError.{StunWriteError}
 use Rattle.stun_grammar.specs.Attributes.{Attribute, canonical, types, attribute_length}
 use Rattle.stun_grammar.specs.Chains.{placed}
 use Rattle.stun_grammar.specs.Writing.{message_encoding}
-use Rattle.stun_grammar.specs.Steps.{Step as Plain, add, sign, finger, appended_by, with_step, value_length, IsEncodable, IsOrdinaryStep as IsOrdinaryPlain}
+use Rattle.stun_grammar.specs.Steps.{Step as Plain, add, sign, sign_given, finger, appended_by, with_step, value_length, IsEncodable, IsOrdinaryStep as IsOrdinaryPlain}
 use Rattle.stun_grammar.specs.Sending.{body_from, Sent, body, sent_encoding, MayFollow, EachMayFollow, IsAccepted}
 use Rattle.stun_grammar.proofs.ShowingLemmas.{AllByRecursion-append}
 use Rattle.stun_grammar.proofs.StepsSignedLemmas.{appended_is}
 use Rattle.stun_grammar.proofs.StepsLemmas.{is_writable, sent_parses, sent_shows, last_validates, each_validates}
 use Rattle.stun_types.specs.declared.writing.steps.Step.{Step}
-use Rattle.stun_types.specs.declared.writing.steps.Step.TheVariants.{Add, Sign, SignKey, Fingerprint}
+use Rattle.stun_types.specs.declared.writing.steps.Step.TheVariants.{Add, Sign, SignKey, SignHmac, Fingerprint}
 use Rattle.stun_grammar.specs.Adding.{appended, grown_length, add_refusal, IsAddAnswer}
 use Rattle.stun_types.specs.Runs.{AddsOrdinary, MakesKey, plain, accepted, sent, IsVerdict, AreVerdicts, ValidatesLast, ValidatesEach, Writes}
 use Rattle.stun_types.specs.Writers.{Writer, Spends, Adds}
@@ -44,6 +44,7 @@ canonical_appended : (m : List ℕ) (s : Plain) → canonical (appended_by s m).
 unfolding appended_by
 canonical_appended m (add t v) = refl
 canonical_appended m (sign a k) = refl
+canonical_appended m (sign_given a h) = refl
 canonical_appended m finger = refl
 
 -- a message with what a step appends is the message with one step more
@@ -103,6 +104,7 @@ module _ {O : Type 0} (T : O → ℕ) (V : O → List ℕ) where
   ordinary_plain (Add o) h = h
   ordinary_plain (Sign c a) h = tt
   ordinary_plain (SignKey k a) h = tt
+  ordinary_plain (SignHmac hmac) h = tt
   ordinary_plain Fingerprint h = tt
 
   -- the verdict on a step, from the message before it and the room at the start
@@ -217,16 +219,16 @@ pub record IsReadBack (message : Sent) (b : List ℕ) : Type 0 where
   pub parses : parse_fault b ≡ None
   pub shows : shown b ≡ placed 20 (body message)
   pub fingerprint : first_fingerprint_fault b (shown b) ≡ None
-  pub last : ValidatesLast message.steps b
-  pub each : ValidatesEach message.steps b
+  pub last : ValidatesLast message b
+  pub each : ValidatesEach message b
 
 read_encoding : (message : Sent) → IsAccepted message → IsReadBack message (sent_encoding message)
 read_encoding message ok = record {
   parses = sent_parses message ok;
   shows = sent_shows message ok;
   fingerprint = ap (first_fingerprint_fault (sent_encoding message)) (sent_shows message ok) ∙ (is_writable message ok).fingerprint;
-  last = λ before behind algorithm key is none. last_validates message before behind algorithm key ok is none;
-  each = λ before behind algorithm key is. each_validates message before behind algorithm key ok is;
+  last = λ before behind step algorithm key is own none. last_validates message before behind step algorithm key ok is own none;
+  each = λ before behind step algorithm key is own. each_validates message before behind step algorithm key ok is own;
 }
 
 -- ---- A run so far

@@ -1,6 +1,8 @@
 pub mod Iterating
 pub mod Endings
 pub mod Validating
+pub mod GivenHmacs
+pub mod NextIntegrities
 pub mod LookingUp
 pub mod PrintedMessages
 pub mod Formatters

@@ -8,8 +8,8 @@ use Rattle.stun_grammar.specs.declared.integrity_algorithm.IntegrityAlgorithm.{I
 use Rattle.stun_grammar.specs.Attributes.{Attribute, types}
 use Rattle.stun_grammar.specs.Verdicts.{is_checked_type, verdict}
 use Rattle.stun_grammar.specs.Writing.{message_encoding}
-use Rattle.stun_grammar.specs.Steps.{Step as Plain, add, sign, finger, with_step, value_length, is_signing}
-use Rattle.stun_grammar.specs.Sending.{Sent, body, IsEncodableSent}
+use Rattle.stun_grammar.specs.Steps.{Step as Plain, add, sign, sign_given, finger, with_step, value_length, is_signing, SignsAs}
+use Rattle.stun_grammar.specs.Sending.{Sent, body, written_by, IsEncodableSent}
 use Rattle.stun_grammar.specs.Chains.{placed}
 use Rattle.stun_grammar.specs.Showing.{shown}
 use Rattle.stun_grammar.specs.Parsing.{parse_fault}
@@ -19,13 +19,15 @@ use Rattle.stun_keys.specs.Keys.{key_bytes, credentials_key}
 use Rattle.stun_grammar.specs.Adding.{grown_length, add_refusal, IsAddAnswer}
 use Rattle.stun_grammar.specs.AttributeTypes.{IsOrdinary}
 use Rattle.stun_types.specs.declared.writing.steps.Step.{Step}
-use Rattle.stun_types.specs.declared.writing.steps.Step.TheVariants.{Add, Sign, SignKey, Fingerprint}
+use Rattle.stun_types.specs.declared.writing.steps.Step.TheVariants.{Add, Sign, SignKey, SignHmac, Fingerprint}
+use Rattle.stun_types.specs.GivenHmacs.{hmac_algorithm, hmac_bytes}
 
 -- a step that adds an attribute adds one of an ordinary type
 abbrev pub AddsOrdinary : {O : Type 0} → (O → ℕ) → Step O → Type 0
 AddsOrdinary type_of (Add o) = IsOrdinary (type_of o)
 AddsOrdinary type_of (Sign credentials algorithm) = Unit {0}
 AddsOrdinary type_of (SignKey key algorithm) = Unit {0}
+AddsOrdinary type_of (SignHmac hmac) = Unit {0}
 AddsOrdinary type_of Fingerprint = Unit {0}
 
 -- the step makes a key, which takes memory
@@ -33,32 +35,37 @@ abbrev pub MakesKey : {O : Type 0} → Step O → Type 0
 MakesKey (Add o) = ⊥
 MakesKey (Sign credentials algorithm) = Unit {0}
 MakesKey (SignKey key algorithm) = ⊥
+MakesKey (SignHmac hmac) = ⊥
 MakesKey Fingerprint = ⊥
 
 -- with the key of the last step that signs, d validates by that step's algorithm
-abbrev pub ValidatesLast : List Plain → List ℕ → Type 0
-ValidatesLast steps d =
-    (before behind : List Plain) (algorithm : IntegrityAlgorithm)
+abbrev pub ValidatesLast : Sent → List ℕ → Type 0
+ValidatesLast sent d =
+    (before behind : List Plain) (step : Plain) (algorithm : IntegrityAlgorithm)
     (key : IntegrityAlgorithm → List ℕ)
-    → steps ≡ before ++ sign algorithm (key algorithm) ∷ behind → list_any is_signing behind ≡ false
+    → sent.steps ≡ before ++ step ∷ behind
+    → SignsAs step (written_by sent.type sent.id before) algorithm (key algorithm)
+    → list_any is_signing behind ≡ false
     → verdict (is_checked_type None) key d ≡ Ok algorithm
 
 -- with the key of each step that signs, made for that step's algorithm, d validates by that
 -- algorithm
-abbrev pub ValidatesEach : List Plain → List ℕ → Type 0
-ValidatesEach steps d =
-    (before behind : List Plain) (algorithm : IntegrityAlgorithm)
+abbrev pub ValidatesEach : Sent → List ℕ → Type 0
+ValidatesEach sent d =
+    (before behind : List Plain) (step : Plain) (algorithm : IntegrityAlgorithm)
     (key : IntegrityAlgorithm → List ℕ)
-    → steps ≡ before ++ sign algorithm (key algorithm) ∷ behind
+    → sent.steps ≡ before ++ step ∷ behind
+    → SignsAs step (written_by sent.type sent.id before) algorithm (key algorithm)
     → verdict (is_checked_type (Some algorithm)) key d ≡ Ok algorithm
 
 module _ {O : Type 0} (type_of : O → ℕ) (value_of : O → List ℕ) where
   -- a step in the grammar's terms: an attribute's type and value, an algorithm and the bytes of a
-  -- key, or a FINGERPRINT
+  -- key or of an HMAC, or a FINGERPRINT
   abbrev pub plain : Step O → Plain
   plain (Add o) = add (type_of o) (value_of o)
   plain (Sign credentials algorithm) = sign algorithm (credentials_key credentials.now algorithm)
   plain (SignKey key algorithm) = sign algorithm (key_bytes key.now)
+  plain (SignHmac hmac) = sign_given (hmac_algorithm hmac.now) (hmac_bytes hmac.now)
   plain Fingerprint = finger
 
   -- the steps whose verdict is Ok
@@ -110,8 +117,8 @@ module _ {O : Type 0} (type_of : O → ℕ) (value_of : O → List ℕ) where
     pub parses : parse_fault new.bytes ≡ None
     pub shows : shown new.bytes ≡ placed 20 (body (sent type id steps verdicts))
     pub fingerprint : first_fingerprint_fault new.bytes (shown new.bytes) ≡ None
-    pub last : ValidatesLast (accepted steps verdicts) new.bytes
-    pub own : ValidatesEach (accepted steps verdicts) new.bytes
+    pub last : ValidatesLast (sent type id steps verdicts) new.bytes
+    pub own : ValidatesEach (sent type id steps verdicts) new.bytes
 
   -- a run writes its steps and stores their verdicts over those before, and `writer` is the writer
   -- by what the run returns; or an allocation failed, which happens only if fewer than twenty

@@ -1,7 +1,9 @@
 //! Messages: a header, and the attributes that follow it.
 
 mod build;
+mod covered;
 pub mod framed;
+mod hmac;
 mod look_up;
 mod printed;
 mod read;
@@ -12,9 +14,11 @@ pub mod write;
 
 pub use crate::reading::{MessageAttributesIter, message_length};
 pub use crate::writing::{
-    MessageWrite, MessageWriteExt, MessageWriteMutSlice, MessageWriteVec, ResumePoint, Step,
-    write_steps, write_steps_into,
+    MessageWrite, MessageWriteExt, MessageWriteMutSlice, MessageWriteVec, NextIntegrity,
+    ResumePoint, Step, write_steps, write_steps_into,
 };
+pub use covered::CoveredText;
+pub use hmac::Hmac;
 pub use read::Message;
 pub use reply::response_answers;
 pub use stun_base::{
@@ -27,3 +31,4 @@ pub use stun_keys::keys::{
     ShortTermCredentials,
 };
 pub use unknown::UnknownTypes;
+pub use validate::IntegrityCheck;

@@ -13,7 +13,7 @@ mod step;
 
 pub(crate) use endings::type_number;
 pub use frame::{check_frame, iter_framed, message_length};
-pub(crate) use integrity_at::{IntegrityAt, integrity_raw};
+pub(crate) use integrity_at::{IntegrityAt, integrity_raw, type_for};
 pub use iterate::MessageAttributesIter;
 pub use laws::{found_has_its_type, found_is_there, shown_is_found, walks_from_there};
 pub use offsets::IntegrityOffsets;

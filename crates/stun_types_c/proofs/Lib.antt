@@ -16,4 +16,4 @@ mod RefusalsLemmas
 mod ManyTransactionsLemmas
 mod KnownTypesLemmas
 mod TurnLemmas
-mod SentLemmas
+mod GivenHmacsLemmas

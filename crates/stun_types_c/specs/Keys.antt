@@ -22,8 +22,7 @@ algorithm_named number =
 abbrev pub number_of : IntegrityAlgorithm → ℕ
 number_of algorithm = type_of_algorithm algorithm
 
--- a handle holds the key that was made, prepared or not; or an allocation failed, and it holds what it
--- held
+-- a handle holds the key that was made; or an allocation failed, and it holds what it held
 abbrev pub HoldsMade : Result IntegrityKey StunWriteError → CResult
     → (old new : Option IntegrityKey) → Type 0
 HoldsMade (Ok key) result old new =

@@ -23,6 +23,7 @@ pub mod Transactions
 pub mod PasswordAlgorithms
 pub mod Authentication
 pub mod Validating
+pub mod GivenHmacs
 pub mod Credentials
 pub mod Challenges
 pub mod Answering
@@ -31,12 +32,10 @@ pub mod Refusals
 pub mod StatelessNonces
 pub mod ManyTransactions
 pub mod Versions
-pub mod TurnTimes
 pub mod TurnMarks
 pub mod TurnHandles
 pub mod TurnServers
 pub mod TurnAddresses
 pub mod TurnMaking
 pub mod TurnClients
-pub mod TurnHeads
 pub mod TurnPeers

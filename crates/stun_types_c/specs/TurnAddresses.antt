@@ -18,18 +18,15 @@ abbrev pub transport_named : ℕ → Option ℕ
 transport_named stream =
     if stream == 0 then Some 17 else (if stream == 1 then Some 6 else None)
 
-abbrev pub tuple_with : (client server : SocketAddr) → (transport : ℕ) → SocketAddr × FiveTuple
-tuple_with client server transport = (
-  client,
-  record {
-    client = endpoint_of client;
-    server = endpoint_of server;
-    transport = transport;
-  },
-)
+abbrev pub tuple_with : (client server : SocketAddr) → (transport : ℕ) → FiveTuple
+tuple_with client server transport = record {
+  client = endpoint_of client;
+  server = endpoint_of server;
+  transport = transport;
+}
 
--- the client, and the 5-tuple, if C's form names one
-abbrev pub tuple_named : CFiveTuple → Option (SocketAddr × FiveTuple)
+-- the 5-tuple, if C's form names one
+abbrev pub tuple_named : CFiveTuple → Option FiveTuple
 tuple_named named =
     option_and_then (λ client. option_and_then (λ server. option_map (tuple_with client server)
     (transport_named named.stream)) (socket_named named.server)) (socket_named named.client)

@@ -14,9 +14,10 @@ use Rattle.turn_table.specs.declared.limits.Limits.{Limits}
 use Rattle.turn_table.specs.declared.peers.networks.Prefix.{Prefix}
 use Rattle.turn_table.specs.Networks.{prefix_of}
 use Rattle.turn_table.specs.Runs.{begun}
+use Rattle.turn_server.specs.declared.access.Access.{Access}
+use Rattle.turn_server.specs.Access.{software_in}
 use Rattle.stun_types_c.specs.declared.address.Address.{Address}
 use Rattle.stun_types_c.specs.declared.call_result.CResult.{CResult}
-use Rattle.stun_types_c.specs.declared.turn_core.Access.{Access}
 use Rattle.stun_types_c.specs.declared.turn_core.PeerRules.{PeerRules}
 use Rattle.stun_types_c.specs.declared.turn_core.TurnCore.{TurnCore}
 use Rattle.stun_types_c.specs.declared.turn_settings.CPrefix.{CPrefix}
@@ -27,7 +28,6 @@ use Rattle.stun_types_c.specs.CResults.{plain, Refuses}
 use Rattle.stun_types_c.specs.Codes.{OK, OUT_OF_MEMORY, BAD_ARGUMENT, NO_KEY}
 use Rattle.stun_types_c.specs.Refusals.{features_named, text_answer}
 use Rattle.stun_types_c.specs.StatelessNonces.{secret_answer}
-use Rattle.stun_types_c.specs.TurnServers.{software_in}
 
 -- ---- What C passes
 
@@ -75,7 +75,8 @@ key_answer (Some key) = secret_answer (key_bytes key)
 abbrev pub access_answer : CTurnSettings → Option IntegrityKey → Option CResult
 access_answer settings secret =
     option_or (argument_answer (is_some (settings_named settings)))
-    (option_or (key_answer secret) (text_answer settings.realm.now))
+    (option_or (key_answer secret)
+    (option_or (text_answer settings.realm.now) (text_answer settings.software.now)))
 
 abbrev pub rules_answer : CTurnSettings → Option CResult
 rules_answer settings =
@@ -87,18 +88,23 @@ rules_answer settings =
 -- the first of these
 abbrev pub making_answer : CTurnSettings → Option IntegrityKey → Option CResult
 making_answer settings secret =
-    option_or (access_answer settings secret)
-    (option_or (text_answer settings.software.now) (rules_answer settings))
+    option_or (access_answer settings secret) (rules_answer settings)
 
 -- ---- The server
 
--- its nonces, by a copy of the secret; its policy; and its realm
+-- a text of no bytes: there is none
+abbrev pub software_named : List ℕ → Option (List ℕ)
+software_named text = if length text == 0 then None else Some text
+
+-- its policy; its nonces, by a copy of the secret; its realm; and the SOFTWARE of its responses
 pub record IsAccess (settings : CTurnSettings) (secret : Option IntegrityKey) (access : Access)
     : Type 0 where
-  pub settings_are : settings_named settings ≡ Some (access.policy, access.features)
-  pub nonces_are : IsSomeAnd secret
-      (λ key. minting_of access.maker ≡ minting (key_bytes key) access.features settings.window)
+  pub settings_are : settings_named settings
+      ≡ Some (access.policy, (minting_of access.nonces).features)
+  pub nonces_are : IsSomeAnd secret (λ key. minting_of access.nonces
+      ≡ minting (key_bytes key) (minting_of access.nonces).features settings.window)
   pub realm_is : text_bytes access.realm ≡ settings.realm.now
+  pub software_is : software_in access ≡ software_named settings.software.now
 
 -- the prefixes and the addresses that C names, in order
 pub record AreRules (settings : CTurnSettings) (rules : PeerRules) : Type 0 where
@@ -106,16 +112,11 @@ pub record AreRules (settings : CTurnSettings) (rules : PeerRules) : Type 0 wher
   pub allowed_are : map prefix_named settings.allowed.now ≡ map Some rules.allowed.items
   pub listening_are : map socket_named settings.listening.now ≡ map Some rules.listening.items
 
--- a text of no bytes: there is none
-abbrev pub software_named : List ℕ → Option (List ℕ)
-software_named text = if length text == 0 then None else Some text
-
 -- and it has no allocation
 pub record IsMade (settings : CTurnSettings) (secret : Option IntegrityKey) (core : TurnCore)
     : Type 0 where
   pub empty : core.server ≡ record { limits = limits_named settings; state = begun }
   pub access_is : IsAccess settings secret core.access
-  pub software_is : software_in core ≡ software_named settings.software.now
   pub rules_are : AreRules settings core.rules
 
 -- a handle holds it, or the call returns why not, and the handle holds what it held

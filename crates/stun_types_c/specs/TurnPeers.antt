@@ -1,13 +1,11 @@
 -- What a TURN server does for a peer's datagram, as C sees it (RFC 8656, sections 11.3 and 12.7).
-use Rattle.std.specs.Prelude.{◌≡◌, ℕ, Bool, true, false, List, length, Option, None, Some, MatchOption, IsSomeAnd, nat_lt, if◌then◌else◌}
-use Rattle.std.specs.declared.net.socket_addr.SocketAddr.{SocketAddr}
+use Rattle.std.specs.Prelude.{◌≡◌, ℕ, List, length, Option, None, Some, MatchOption, IsSomeAnd, nat_lt, if◌then◌else◌}
 use Rattle.stun_grammar.specs.Numbers.{number}
-use Rattle.turn_table.specs.declared.reply.ToClient.{ToClient}
-use Rattle.turn_table.specs.Events.{arrives}
-use Rattle.turn_table.specs.Outputs.{receiving}
-use Rattle.turn_table.specs.Steps.{step}
+use Rattle.turn_table.specs.declared.endpoints.Endpoint.{Endpoint}
 use Rattle.turn_table.specs.Polls.{Polls}
 use Rattle.turn_server.specs.Addresses.{endpoint_of}
+use Rattle.turn_server.specs.Delivering.{Receives as ReceivesBy}
+use Rattle.turn_server.specs.declared.action.Delivery.{Delivery}
 use Rattle.stun_types_c.specs.declared.address.Address.{Address}
 use Rattle.stun_types_c.specs.declared.call_result.CResult.{CResult}
 use Rattle.stun_types_c.specs.declared.reading.Id.{Id}
@@ -18,7 +16,6 @@ use Rattle.stun_types_c.specs.Codes.{OK, TOO_SMALL, BAD_ARGUMENT}
 use Rattle.stun_types_c.specs.CResults.{plain, counted, Refuses}
 use Rattle.stun_types_c.specs.TurnAddresses.{nowhere, HoldsTuple}
 use Rattle.stun_types_c.specs.TurnClients.{IsSameServer}
-use Rattle.stun_types_c.specs.TurnHeads.{message_by, has_head, IsFramed}
 use Rattle.stun_types_c.specs.TurnServers.{setup_in}
 
 -- ---- What C is to do
@@ -37,36 +34,24 @@ dropped = record {
   padding = 0;
 }
 
-abbrev pub IsDropped : (old new : Delivered) → Type 0
-IsDropped old new = new ≡ record { slice = old.slice; delivery = dropped }
-
-pub record IsDelivered (to : ToClient) (n id : ℕ) (peer : SocketAddr) (old new : Delivered)
-    : Type 0 where
-  pub to_is : HoldsTuple to.tuple new.delivery.to
-  pub sends_is : new.delivery.sends ≡ 1
-  pub framed : IsFramed n (message_by to.tuple to.channel id peer) old.slice new.slice
-      new.delivery.head_length new.delivery.padding
-
-abbrev pub DeliversIf : Bool → ToClient → (n id : ℕ) → SocketAddr → (old new : Delivered) → Type 0
-DeliversIf true to n id peer old new = IsDelivered to n id peer old new
-DeliversIf false to n id peer old new = IsDropped old new
-
-abbrev pub DeliversTo : Option ToClient → (n id : ℕ) → SocketAddr → (old new : Delivered) → Type 0
-DeliversTo None n id peer old new = IsDropped old new
-DeliversTo (Some to) n id peer old new =
-    DeliversIf (has_head to.tuple to.channel peer n (length old.slice)) to n id peer old new
+-- a delivery, or that a datagram is dropped
+abbrev pub IsDelivery : Option Delivery → CDelivery → Type 0
+IsDelivery None held = held ≡ dropped
+IsDelivery (Some delivery) held =
+    HoldsTuple delivery.to held.to × ((held.sends ≡ 1)
+    × ((held.head_length ≡ delivery.head_length) × (held.padding ≡ delivery.padding)))
 
 -- ---- The call
 
 -- the server takes the datagram of a peer, whatever its bytes are, as `TurnServer` does
-pub record Receives (core : TurnCore) (now relay n id : ℕ) (peer : SocketAddr) (new : TurnCore)
+pub record Receives (core : TurnCore) (now relay n id : ℕ) (peer : Endpoint) (new : TurnCore)
     (before after : Delivered) : Type 0 where
   pub same : IsSameServer core new
-  pub to : Option ToClient
-  pub step : (bytes : List ℕ)
-      → step (setup_in core) core.server.state now (arrives relay (endpoint_of peer) bytes)
-      ≡ record { state = new.server.state; output = receiving to (endpoint_of peer) bytes }
-  pub delivers : DeliversTo to n id peer before after
+  pub delivery : Option Delivery
+  pub receives : ReceivesBy (setup_in core) now relay peer n id
+      (record { state = core.server.state; slice = before.slice })
+      (record { state = new.server.state; slice = after.slice }) delivery
+  pub in_c : IsDelivery delivery after.delivery
 
 -- how many bytes a head has at most
 abbrev pub head_max : ℕ
@@ -80,7 +65,7 @@ pub record PeerLeft : Type 0 where
 abbrev pub head_answer : (room : ℕ) → Option CResult
 head_answer room = if nat_lt room head_max then Some (counted TOO_SMALL head_max room) else None
 
-abbrev pub ReceivesIn : TurnCore → (now relay n id : ℕ) → SocketAddr → CResult → PeerLeft → PeerLeft
+abbrev pub ReceivesIn : TurnCore → (now relay n id : ℕ) → Endpoint → CResult → PeerLeft → PeerLeft
     → Type 0
 ReceivesIn core now relay n id peer result old new =
     MatchOption (head_answer (length old.delivered.slice))
@@ -94,7 +79,7 @@ TakesPeer now address relay n id result old new =
     (Refuses (plain BAD_ARGUMENT) result old new)
     (λ peer. MatchOption old.core
     (Refuses (plain BAD_ARGUMENT) result old new)
-    (λ core. ReceivesIn core now relay n (number id.bytes) peer result old new))
+    (λ core. ReceivesIn core now relay n (number id.bytes) (endpoint_of peer) result old new))
 
 -- ---- Time
 

@@ -5,7 +5,7 @@ ghost use Rattle.stun_keys.specs.Keys.{key_bytes, IsKey};
 ghost use Rattle.std.specs.Str.{is_utf8};
 ghost use Rattle.std.specs.String.{string_bytes};
 ghost use Rattle.stun_types_c.specs.KeyHandles.{held_key, shared_key};
-ghost use Rattle.stun_types_c.specs.Keys.{algorithm_named, number_of, made_for_number, HoldsPassword, HoldsNamed, HoldsMade, HoldsCopy, TellsKey};
+ghost use Rattle.stun_types_c.specs.Keys.{algorithm_named, number_of, made_for_named, made_for_number, HoldsPassword, HoldsNamed, HoldsMade, HoldsCopy, TellsKey};
 ghost use Rattle.stun_types_c.specs.Credentials.{RefusesText, IsLongTerm, RefusesLongTerm, HoldsLongTerm, TellsUserhash};
 
 use crate::call_result::{CResult, counted, plain, write_result};
@@ -32,6 +32,19 @@ pub(crate) fn algorithm_of(number: u32) -> Option<IntegrityAlgorithm>
     }
 }
 
+/// The algorithm that a number of C's chooses, and by 0 none, which are both.
+pub(crate) fn made_for_of(number: u32) -> Option<Option<IntegrityAlgorithm>>
+    ensures { result ≡ made_for_named number }
+{
+    match number {
+        0 => Some(None),
+        number => match algorithm_of(number) {
+            Some(algorithm) => Some(Some(algorithm)),
+            None => None,
+        },
+    }
+}
+
 /// The number of an algorithm.
 pub(crate) fn number_of(algorithm: IntegrityAlgorithm) -> u32
     ensures { result ≡ number_of algorithm }
@@ -42,8 +55,7 @@ pub(crate) fn number_of(algorithm: IntegrityAlgorithm) -> u32
     }
 }
 
-/// Prepares a key that was made for the many calls that may use it, and puts it into a handle. With
-/// no memory left to prepare it in, it works as it is.
+/// Puts a key that was made into a handle, prepared for the many calls that may use it.
 pub(crate) fn hold_made(
     alloc: Global,
     key: &mut KeyHandle,
@@ -53,7 +65,9 @@ pub(crate) fn hold_made(
 {
     match made {
         Ok(mut made) => {
-            let _prepared = made.prepare(alloc);
+            if let Err(error) = made.prepare(alloc) {
+                return write_result(error);
+            }
             match hold(key, alloc, made) {
                 Ok(()) => plain(codes::OK),
                 Err(AllocError) => plain(codes::OUT_OF_MEMORY),
@@ -100,12 +114,8 @@ pub extern "C" fn stun_types_key_from_bytes(
 ) -> CResult
     ensures { HoldsNamed algorithm bytes.now result (held_key key.old) (held_key key.new) }
 {
-    let algorithm = match algorithm {
-        0 => None,
-        number => match algorithm_of(number) {
-            Some(algorithm) => Some(algorithm),
-            None => return plain(codes::BAD_ARGUMENT),
-        },
+    let Some(algorithm) = made_for_of(algorithm) else {
+        return plain(codes::BAD_ARGUMENT);
     };
     if bytes.is_empty() {
         return plain(codes::BAD_ARGUMENT);

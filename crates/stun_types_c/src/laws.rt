@@ -6,14 +6,7 @@ ghost use Rattle.stun_types.specs.LookingUp.{nth};
 ghost use Rattle.stun_authentication.specs.Challenges.{Retry, challenge_of};
 ghost use Rattle.stun_types_c.specs.Attributes.{in_c};
 ghost use Rattle.stun_types_c.specs.Challenges.{in_c as asked_in_c, StandsWhereReported};
-ghost use Rattle.turn_table.specs.declared.endpoints.Endpoint.{Endpoint};
-ghost use Rattle.turn_server.specs.ChannelMessages.{data_in};
-ghost use Rattle.turn_server.specs.Indications.{sent_by};
-ghost use Rattle.turn_server.specs.Judgments.{IsSend};
-ghost use Rattle.stun_types_c.specs.TurnClients.{data_at, StandAt};
 ghost use Rattle.stun_types_c.specs.Values.{value_of};
-
-use turn_attrs::stun_begins_low;
 
 /// The value of an attribute that is found is at the place that is reported to C.
 pub fn found_value_stands_where_it_is_reported(bytes: &[u8])
@@ -27,15 +20,3 @@ pub fn asked_texts_stand_where_they_are_reported(response: &[u8])
         → challenge_of supported tried had_algorithms response.now ≡ Ok retry
         → StandsWhereReported response.now retry (asked_in_c response.now retry) }
 {}
-
-/// So does the data that a client sends to a peer: in a Send indication, and on a channel, whose number
-/// begins with 0x40 or more.
-pub fn sent_data_stands_where_it_is_reported(datagram: &[u8])
-    ensures in_an_indication { IsSend datagram.now → (peer : Endpoint) (bytes : List ℕ)
-        → sent_by datagram.now ≡ Some (peer, bytes)
-        → StandAt (data_at datagram.now) bytes datagram.now }
-    ensures on_a_channel { 64 ≤ slice_index datagram.now 0 → (bytes : List ℕ)
-        → data_in datagram.now ≡ Some bytes → StandAt (data_at datagram.now) bytes datagram.now }
-{
-    stun_begins_low();
-}

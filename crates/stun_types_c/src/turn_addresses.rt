@@ -6,7 +6,6 @@ ghost use Rattle.stun_types_c.specs.Addresses.{Holds};
 ghost use Rattle.stun_types_c.specs.TurnAddresses.{transport_named, tuple_named, ready_named, family_named, sockets_named, HoldsTuple};
 
 use crate::address::{Address, in_c, socket_of};
-use std::net::SocketAddr;
 use turn_server::{Ready, Sockets, endpoint_of, socket_of as socket_of_endpoint};
 use turn_table::{Endpoint, FiveTuple};
 
@@ -64,19 +63,18 @@ fn transport_of(stream: u16) -> Option<u8>
     }
 }
 
-/// A 5-tuple of C's, and its client as the nonces have it.
-pub(crate) fn tuple_of(named: &CFiveTuple) -> Option<(SocketAddr, FiveTuple)>
+/// A 5-tuple of C's.
+pub(crate) fn tuple_of(named: &CFiveTuple) -> Option<FiveTuple>
     ensures { result ≡ tuple_named named.now }
 {
     let client = socket_of(&named.client)?;
     let server = socket_of(&named.server)?;
     let transport = transport_of(named.stream)?;
-    let tuple = FiveTuple {
+    Some(FiveTuple {
         client: endpoint_of(client),
         server: endpoint_of(server),
         transport,
-    };
-    Some((client, tuple))
+    })
 }
 
 /// An address of the table, in C's form.

@@ -1,33 +1,23 @@
 //! What a TURN server does for a peer's datagram, and for the time.
 
-ghost use Rattle.std.specs.Prelude.{◌≡◌, ℕ, List, length, Some};
-ghost use Rattle.turn_attrs.specs.Heads.{data_indication};
-ghost use Rattle.turn_table.specs.Events.{arrives};
-ghost use Rattle.turn_table.specs.Outputs.{receiving};
+ghost use Rattle.std.specs.Prelude.{◌≡◌, Some};
 ghost use Rattle.turn_table.specs.Polls.{Polls};
-ghost use Rattle.turn_table.specs.Steps.{step};
-ghost use Rattle.turn_server.specs.Addresses.{endpoint_of};
 ghost use Rattle.stun_types_c.specs.TurnClients.{IsSameServer};
 ghost use Rattle.stun_types_c.specs.TurnHandles.{held_turn};
-ghost use Rattle.stun_types_c.specs.TurnHeads.{greatest_to, message_on, message_by, has_channel_head, has_data_head, has_head, WritesHead};
-ghost use Rattle.stun_types_c.specs.TurnPeers.{dropped, DeliversTo, Receives, ReceivesIn, TakesPeer, PollsInC};
-ghost use Rattle.stun_types_c.specs.TurnServers.{setup_in};
+ghost use Rattle.stun_types_c.specs.TurnPeers.{dropped, IsDelivery, Receives, ReceivesIn, TakesPeer, PollsInC};
 
 use crate::address::{Address, socket_of};
 use crate::call_result::{CResult, counted, plain};
 use crate::codes;
 use crate::reading::Id;
-use crate::turn_addresses::{CFiveTuple, NOWHERE, UDP, tuple_in_c};
+use crate::turn_addresses::{CFiveTuple, NOWHERE, tuple_in_c};
 use crate::turn_core::TurnCore;
 use crate::turn_handle::CTurn;
 use crate::turn_store::{put, take};
 use std::alloc::Global;
-use std::net::SocketAddr;
-use stun_framing::ChannelRange;
-use stun_types::message::{GREATEST_MESSAGE, TransactionId};
-use turn_attrs::{Channel, write_channel_head, write_data_head};
-use turn_server::endpoint_of;
-use turn_table::{FiveTuple, ToClient};
+use stun_types::message::TransactionId;
+use turn_server::{Delivery, endpoint_of};
+use turn_table::Endpoint;
 
 /// What C does with the data of a peer.
 #[repr(C)]
@@ -62,109 +52,19 @@ fn dropped() -> CDelivery
 /// How many bytes a head has at most.
 const HEAD: usize = 48;
 
-/// The length of the greatest message that the transport to a client takes.
-fn greatest_to(tuple: &FiveTuple) -> usize
-    ensures { result ≡ greatest_to tuple.now }
+/// What C does for a delivery, or a datagram that is dropped.
+fn in_c(delivery: Option<Delivery>) -> CDelivery
+    ensures { IsDelivery delivery result }
 {
-    if tuple.transport != UDP {
-        GREATEST_MESSAGE
-    } else if tuple.client.ip.family == 1 {
-        65507
-    } else {
-        65527
-    }
-}
-
-/// What is around the data on a channel; `None` if it is dropped.
-fn channel_head(
-    tuple: &FiveTuple,
-    number: u16,
-    data_length: usize,
-    head: &mut [u8],
-) -> Option<(u16, u16)>
-    ensures { WritesHead (has_channel_head tuple.now number data_length (length head.old)) data_length
-        (message_on tuple.now number) head.old head.new result }
-{
-    let channel = Channel::in_range(number, ChannelRange::Rfc5766)?;
-    let written = write_channel_head(channel, data_length, greatest_to(tuple), head).ok()?;
-    let padding = if tuple.transport == UDP {
-        0
-    } else {
-        written.padding as u16
-    };
-    Some((written.length as u16, padding))
-}
-
-/// What is around the data in a Data indication; `None` if it is dropped.
-fn data_head(
-    tuple: &FiveTuple,
-    id: TransactionId,
-    peer: SocketAddr,
-    data_length: usize,
-    head: &mut [u8],
-) -> Option<(u16, u16)>
-    ensures { WritesHead (has_data_head tuple.now peer data_length (length head.old)) data_length
-        (data_indication id peer) head.old head.new result }
-{
-    let written = write_data_head(id, peer, data_length, greatest_to(tuple), head).ok()?;
-    Some((written.length as u16, written.padding as u16))
-}
-
-/// What is around the data that goes to a client; `None` if it is dropped.
-fn head_for(
-    to: &ToClient,
-    id: TransactionId,
-    peer: SocketAddr,
-    data_length: usize,
-    head: &mut [u8],
-) -> Option<(u16, u16)>
-    ensures { WritesHead (has_head to.now.tuple to.now.channel peer data_length (length head.old))
-        data_length (message_by to.now.tuple to.now.channel id peer) head.old head.new result }
-{
-    match to.channel {
-        Some(number) => channel_head(&to.tuple, number, data_length, head),
-        None => data_head(&to.tuple, id, peer, data_length, head),
-    }
-}
-
-/// What C does for data that goes to a client.
-fn deliver_to(
-    to: Option<ToClient>,
-    id: TransactionId,
-    peer: SocketAddr,
-    data_length: usize,
-    head: &mut [u8],
-    delivery: &mut CDelivery,
-)
-    ensures { DeliversTo to data_length id peer
-        (record { slice = head.old; delivery = delivery.old })
-        (record { slice = head.new; delivery = delivery.new }) }
-{
-    *delivery = dropped();
-    let Some(to) = to else {
-        return;
-    };
-    if let Some((head_length, padding)) = head_for(&to, id, peer, data_length, head) {
-        *delivery = CDelivery {
-            to: tuple_in_c(&to.tuple),
+    match delivery {
+        Some(delivery) => CDelivery {
+            to: tuple_in_c(&delivery.to),
             sends: 1,
-            head_length,
-            padding,
-        };
+            head_length: delivery.head_length,
+            padding: delivery.padding,
+        },
+        None => dropped(),
     }
-}
-
-/// Takes a peer's datagram: where `TurnServer` sends it.
-fn take_data(core: &mut TurnCore, now: u64, relay: u64, peer: SocketAddr) -> Option<ToClient>
-    ensures same { IsSameServer core.old core.new }
-    ensures step { (bytes : List ℕ)
-        → step (setup_in core.old) core.old.server.state now (arrives relay (endpoint_of peer) bytes)
-        ≡ record {
-          state = core.new.server.state;
-          output = receiving result (endpoint_of peer) bytes;
-        } }
-{
-    core.server.on_peer_datagram(now, relay, endpoint_of(peer))
 }
 
 /// Takes a peer's datagram, and writes what comes before its data.
@@ -172,7 +72,7 @@ fn receive(
     core: &mut TurnCore,
     now: u64,
     relay: u64,
-    peer: SocketAddr,
+    peer: Endpoint,
     data_length: usize,
     id: TransactionId,
     head: &mut [u8],
@@ -182,8 +82,10 @@ fn receive(
         (record { slice = head.old; delivery = delivery.old })
         (record { slice = head.new; delivery = delivery.new }) }
 {
-    let to = take_data(core, now, relay, peer);
-    deliver_to(to, id, peer, data_length, head, delivery);
+    let to = core
+        .server
+        .on_peer_datagram(now, relay, peer, data_length, id, head);
+    *delivery = in_c(to);
 }
 
 /// The same, if there is room for any head.
@@ -191,7 +93,7 @@ fn receive_in(
     core: &mut TurnCore,
     now: u64,
     relay: u64,
-    peer: SocketAddr,
+    peer: Endpoint,
     data_length: usize,
     id: TransactionId,
     head: &mut [u8],
@@ -239,6 +141,7 @@ pub extern "C" fn stun_types_turn_peer(
         return plain(codes::BAD_ARGUMENT);
     };
     let id = TransactionId::from_bytes(&id.bytes);
+    let peer = endpoint_of(peer);
     let result = receive_in(&mut core, now, relay, peer, data_length, id, head, delivery);
     put(server, core);
     result

@@ -23,7 +23,7 @@ use crate::codes;
 use crate::refusals::{features_of, realm_of};
 use crate::shared_key::SharedKey;
 use crate::stateless_nonces::maker_of;
-use crate::turn_core::{Access, PeerRules, TurnCore};
+use crate::turn_core::{PeerRules, TurnCore};
 use crate::turn_handle::CTurn;
 use crate::turn_store::{put, release};
 use crate::values::text_in;
@@ -32,7 +32,7 @@ use std::alloc::{AllocError, Global};
 use std::net::SocketAddr;
 use stun_authentication::{NonceMaker, Policy, SecurityFeatures};
 use stun_types::attribute::Software;
-use turn_server::TurnServer;
+use turn_server::{Access, TurnServer};
 use turn_table::Limits;
 use turn_table::peers::Prefix;
 
@@ -257,13 +257,14 @@ fn access_of(
     let Some((policy, features)) = checked(settings) else {
         return Err(plain(codes::BAD_ARGUMENT));
     };
-    let maker = maker_with(alloc, secret, features, settings.window)?;
+    let nonces = maker_with(alloc, secret, features, settings.window)?;
     let realm = realm_of(alloc, settings.realm)?;
+    let software = software_of(alloc, settings.software)?;
     Ok(Access {
-        maker,
+        nonces,
         realm,
         policy,
-        features,
+        software,
     })
 }
 
@@ -285,13 +286,11 @@ fn core_of(
     alloc: Global,
     settings: &CTurnSettings<'_>,
     access: Access,
-    software: Option<Software>,
     rules: PeerRules,
 ) -> Result<Box<TurnCore>, AllocError>
     ensures { IfOk result (λ boxed. box_value boxed ≡ record {
       server = record { limits = limits_named settings.now; state = begun };
       access = access;
-      software = software;
       rules = rules;
     }) }
 {
@@ -299,7 +298,6 @@ fn core_of(
     let core = TurnCore {
         server,
         access,
-        software,
         rules,
     };
     Ok(Box::new(alloc, core)?)
@@ -318,9 +316,8 @@ fn made_of(
         (λ why. (making_answer settings.now key ≡ Some why) ⊎ (why ≡ plain OUT_OF_MEMORY)) }
 {
     let access = access_of(alloc, settings, secret)?;
-    let software = software_of(alloc, settings.software)?;
     let rules = rules_of(alloc, settings)?;
-    match core_of(alloc, settings, access, software, rules) {
+    match core_of(alloc, settings, access, rules) {
         Ok(core) => Ok(core),
         Err(AllocError) => Err(plain(codes::OUT_OF_MEMORY)),
     }

@@ -11,9 +11,7 @@ ghost use Rattle.stun_types_c.specs.KeyHandles.{shared_key};
 ghost use Rattle.stun_types_c.specs.Validating.{hmac_length, checked_in, verdict_of, policy_answer, policy_reported, TellsVerdict, ValidatesWith, ValidatesKey, ValidatesBy};
 
 use crate::authentication::{CPolicy, policy_of};
-use crate::call_result::{
-    CResult, about, counted, parse_result, plain, validate_result, write_result,
-};
+use crate::call_result::{CResult, about, counted, parse_result, plain, validate_result};
 use crate::codes;
 use crate::keys::{long_term_of, number_of};
 use crate::shared_key::SharedKey;
@@ -41,7 +39,7 @@ pub struct Validated {
 }
 
 /// What a call leaves if the message isn't valid.
-const NOT_VALIDATED: Validated = Validated {
+pub(crate) const NOT_VALIDATED: Validated = Validated {
     algorithm: 0,
     hmac_length: 0,
     reserved: 0,
@@ -73,7 +71,7 @@ fn checked_in(message: &Message<'_>, algorithm: IntegrityAlgorithm) -> Validated
 }
 
 /// Reports a verdict on a message to C.
-fn tell_verdict(
+pub(crate) fn tell_verdict(
     message: &Message<'_>,
     verdict: Result<IntegrityAlgorithm, ValidateError>,
     validated: &mut Validated,
@@ -246,13 +244,13 @@ pub extern "C" fn stun_types_validate_short_term(
     if password.is_empty() {
         return plain(codes::BAD_ARGUMENT);
     }
-    match IntegrityKey::new(alloc, password, None) {
+    match key_of_bytes(alloc, password, None) {
         Ok(key) => tell_verdict(
             &message,
             message.validate_integrity_with_key(&key),
             validated,
         ),
-        Err(error) => write_result(error),
+        Err(AllocError) => plain(codes::OUT_OF_MEMORY),
     }
 }
 

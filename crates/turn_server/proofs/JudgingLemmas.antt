@@ -1,7 +1,7 @@
 -- What a judgment says of the datagram, case by case.
-use Rattle.std.proofs.Common.{◌≡◌, ℕ, Bool, true, false, List, [], ◌∷◌, Option, Some, None, if◌then◌else◌, refl, ap, subst}
+use Rattle.std.proofs.Common.{◌≡◌, ℕ, Bool, true, false, ◌&&◌, List, [], ◌∷◌, Option, Some, None, if◌then◌else◌, refl, ap, subst, ◌∙◌}
 use Rattle.std.proofs.lemmas.Bool.{eqb-true}
-use Rattle.std.specs.Prelude.{is_some, ◌==◌}
+use Rattle.std.specs.Prelude.{is_some, slice_get, ◌==◌}
 use Rattle.std.specs.Option.{option_map_or, option_or}
 use Rattle.stun_grammar.specs.declared.integrity_algorithm.IntegrityAlgorithm.{IntegrityAlgorithm}
 use Rattle.stun_grammar.specs.Headers.{type_field, header_fault}
@@ -119,3 +119,25 @@ asked_is_so site other tuple relay d user request (asked by wanted key reply_alg
       asked = subst (λ (u : ℕ). IsAsked site d u wanted key reply_algorithm) same_user so;
       request_is = cc;
     }
+
+-- ---- The steps of a judgment, one after the other
+
+pub requested_is : (site : Site) (method : ℕ) (d : List ℕ) → (method == BINDING) ≡ false → asks_table method ≡ true
+    → requested site method d ≡ decided_as site method d (credentials site d)
+requested_is site method d other it_asks = rw (other, it_asks) refl
+
+pub message_is : (site : Site) (d : List ℕ) (class : MessageClass) → parse_fault d ≡ None → class_of (type_field d) ≡ class
+    → message site d ≡ by_class site class (method_of (type_field d)) d
+message_is site d class parses is = rw (parses, is) refl
+
+pub judge_channel : (last_channel : ℕ) (site : Site) (d : List ℕ) (first : ℕ) → slice_get d 0 ≡ Some first → is_channel_byte last_channel first ≡ true
+    → judge last_channel site d ≡ channel_message d
+judge_channel last_channel site [] first at begins = absurd cc
+judge_channel last_channel site (x ∷ d) first at begins =
+    let same : x ≡ first = cc in
+    let begins_it : is_channel_byte last_channel x ≡ true = ap (is_channel_byte last_channel) same ∙ begins in
+    rw begins_it refl
+
+pub second_false : (a b : Bool) → a ≡ true → (a && b) ≡ false → b ≡ false
+second_false true b is e = e
+second_false false b is e = absurd cc

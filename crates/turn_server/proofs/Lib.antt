@@ -7,3 +7,5 @@ mod StrangersLemmas
 mod ActingLemmas
 mod EndpointsLemmas
 mod AnswersLemmas
+mod SpansLemmas
+mod AskingLemmas

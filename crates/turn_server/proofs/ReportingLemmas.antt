@@ -11,8 +11,8 @@ use Rattle.turn_server.specs.Judging.{Site, accepted_as, decided_as}
 use Rattle.turn_server.specs.Reporting.{Signs, Tells}
 
 -- what is right by the key and the algorithm of the reply is right by the decision that has them
-pub decision_reported : (site : Site) (method : ℕ) (d : List ℕ) (accepted : Accepted) (reported : Reported) → ((user : Who) (key : UserKey) (algorithm : IntegrityAlgorithm) → who accepted.user ≡ user → Signs key algorithm accepted → Tells (accepted_as site method d user key algorithm) reported)
-    → (decision : Decision) → Decides decision (AcceptedBy accepted) → Tells (decided_as site method d decision) reported
+pub decision_reported : (site : Site) (method : ℕ) (d : List ℕ) (accepted : Accepted) (reported : Reported) → ((user : Who) (key : UserKey) (algorithm : IntegrityAlgorithm) → who accepted.user ≡ user → Signs key algorithm accepted → Tells site d (accepted_as site method d user key algorithm) reported)
+    → (decision : Decision) → Decides decision (AcceptedBy accepted) → Tells site d (decided_as site method d decision) reported
 decision_reported site method d accepted reported right (accept user key algorithm reply_algorithm) decides = right user key reply_algorithm decides.user_is (record { key_is = decides.key_is; reply_is = decides.reply_is })
 decision_reported site method d accepted reported right (refuse refusal) decides = absurd decides
 decision_reported site method d accepted reported right discard decides = absurd decides

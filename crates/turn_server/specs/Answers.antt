@@ -26,18 +26,10 @@ use Rattle.stun_authentication.specs.Writing.{no_room, sizes, print_steps, signe
 use Rattle.turn_attrs.specs.Turn.{ADDITIONAL_ADDRESS_FAMILY, ADDRESS_ERROR_CODE, LIFETIME, XOR_RELAYED_ADDRESS}
 use Rattle.turn_table.specs.declared.endpoints.Endpoint.{Endpoint}
 use Rattle.turn_table.specs.Events.{Answer as TableAnswer, allocated, refreshed, done, refused}
-use Rattle.turn_server.specs.declared.answer.Answer.{Answer}
-use Rattle.turn_server.specs.declared.answer.Answer.TheVariants.{Allocated, Refreshed, Done, Refused}
 use Rattle.turn_server.specs.Comprehended.{comprehended}
 use Rattle.turn_server.specs.Endpoints.{socket_of}
 
--- ---- What the table answers
-
-abbrev pub table_answer : Answer → TableAnswer
-table_answer (Allocated relayed lifetime) = allocated relayed lifetime
-table_answer (Refreshed lifetime) = refreshed lifetime
-table_answer Done = done
-table_answer (Refused code) = refused code
+-- ---- The attributes
 
 abbrev pub answer_class : TableAnswer → MessageClass
 answer_class (refused code) = ErrorClass

@@ -9,13 +9,10 @@ use Rattle.turn_table.specs.Events.{Request as TableRequest, refresh, permit, bi
 use Rattle.turn_table.specs.declared.endpoints.Ip.{Ip}
 use Rattle.turn_table.specs.declared.endpoints.Endpoint.{Endpoint}
 use Rattle.turn_server.specs.declared.sockets.Sockets.{Sockets}
-use Rattle.turn_server.specs.declared.request.Request.{Request}
-use Rattle.turn_server.specs.declared.request.Request.TheVariants.{Allocate, Refresh, Permit, Bind, Unfit}
 use Rattle.turn_server.specs.Addresses.{peer_of}
 use Rattle.turn_server.specs.Allocating.{allocate_of}
 use Rattle.turn_server.specs.Peers.{names_peers, peers_of}
-use Rattle.turn_server.specs.PeersLeft.{peers_left}
-use Rattle.turn_server.specs.Wanted.{Wanted, opening, other}
+use Rattle.turn_server.specs.Wanted.{Wanted, other}
 use Rattle.turn_server.specs.Values.{malformed, number_in, byte_in}
 
 -- ---- The methods
@@ -73,12 +70,3 @@ request_of client sockets method d =
     if method == ALLOCATE then allocate_of client sockets d else (
     if method == REFRESH then other (refresh_of d) else (
     if method == CREATE_PERMISSION then other (permit_of d) else other (bind_of d)))
-
--- ---- A request that was read
-
-abbrev pub wanted_by : Request → Wanted
-wanted_by (Allocate id lifetime wish) = opening id lifetime wish
-wanted_by (Refresh family lifetime) = other (refresh family lifetime)
-wanted_by (Permit peers) = other (permitting (peers_left peers))
-wanted_by (Bind channel peer) = other (bind channel peer)
-wanted_by (Unfit code) = other (unfit code)

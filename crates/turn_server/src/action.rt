@@ -1,90 +1,77 @@
-//! What a server does for a client's datagram.
+//! What a program does for a datagram.
 
-use crate::Answer;
-use stun_authentication::{Accepted, Refusal};
-use turn_table::Endpoint;
+use stun_types::message::StunWriteError;
+use turn_table::{Endpoint, FiveTuple};
 
-/// What the caller has to do after a client's datagram. It borrows the data.
-///
-/// A response goes back on the 5-tuple of the datagram, from the address that this came to. If writing
-/// it fails, the request has taken effect: the client sends it again.
-///
-/// # Examples
-///
-/// What to send to the client. `challenge` has the realm, a nonce for this client, and the password
-/// algorithms.
-///
-/// ```
-/// use std::alloc::Global;
-/// use std::net::SocketAddr;
-/// use stun_authentication::{Challenge, refuse_long_term};
-/// use stun_types::attribute::{Nonce, Realm};
-/// use stun_types::message::{Message, MessageWriteVec, StunWriteError};
-/// use stun_types::prelude::*;
-/// use turn_server::{Action, endpoint_of, write_answer, write_unknown};
-///
-/// fn response(
-///     alloc: Global,
-///     client: SocketAddr,
-///     datagram: &[u8],
-///     action: &Action<'_>,
-///     challenge: &Challenge<'_>,
-/// ) -> Result<Option<Vec<u8>>, StunWriteError> {
-///     let Ok(request) = Message::from_bytes(datagram) else {
-///         return Ok(None);
-///     };
-///     let vector = MessageWriteVec::new(alloc);
-///     let reply = match action {
-///         Action::Dropped | Action::ToPeer { .. } => return Ok(None),
-///         Action::Binding => return stun_server::reply(alloc, client, datagram),
-///         Action::Refused(refusal) => {
-///             refuse_long_term(alloc, &request, *refusal, challenge, vector)?
-///         }
-///         Action::Unknown(accepted) => write_unknown(alloc, &request, accepted, vector)?,
-///         Action::Answered { answer, accepted, .. } => {
-///             let client = endpoint_of(client);
-///             write_answer(alloc, &request, client, None, *answer, accepted, vector)?
-///         }
-///     };
-///     Ok(Some(reply.finish()))
-/// }
-///
-/// let (realm, nonce) = (Realm::new(alloc, "example.org")?, Nonce::new(alloc, "1000")?);
-/// let challenge = Challenge::new(alloc, &realm, &nonce, &[])?;
-/// let client: SocketAddr = "192.0.2.1:32853".parse()?;
-/// let request = b"\x00\x01\x00\x00\x21\x12\xA4\x42abcdefghijkl";
-/// let sent = response(alloc, client, request, &Action::Binding, &challenge)?;
-/// assert!(rt; sent.is_some_and(|reply| Message::from_bytes(&reply).is_ok()));
-/// ```
-#[derive(Debug, Drop)]
-pub enum Action<'d> {
-    /// Send nothing.
+/// What a program does for a client's datagram.
+#[derive(Clone, Copy, Debug, PartialEq, Eq)]
+pub enum Action {
+    /// It sends nothing.
     Dropped,
-    /// Reply to a Binding request: `stun_server::reply_into` writes the reply.
-    Binding,
-    /// Refuse the request by an error response that isn't signed, 400, 401 or 438:
-    /// `stun_authentication::refuse_long_term` writes it.
-    Refused(Refusal),
-    /// Refuse a user's request with 420, since it shows types that aren't comprehended:
-    /// [`write_unknown`](crate::write_unknown) writes the error response.
-    Unknown(Accepted<'d>),
-    /// Answer a user's request, and if `took` is `Some(number)`, keep the socket that was ready in a map
-    /// under this number, by which [`Action::ToPeer`], `TurnServer::on_peer_datagram` and
-    /// `TurnServer::poll` name it. [`write_answer`](crate::write_answer) writes the response.
-    ///
-    /// `took` has a number if the request opened an allocation: the socket that was ready with the
-    /// relayed address of the answer is that allocation's from then on. No other allocation has the
-    /// number until `poll` returns it; then close the socket, and remove it from the map. Keep the socket
-    /// even if the response can't be written, and have another one ready for the next call.
-    Answered {
-        answer: Answer,
-        took: Option<u64>,
-        accepted: Accepted<'d>,
-    },
-    /// Send the data to the peer, from the socket that is kept under the number `relay`.
+    /// It sends a response, which is at the start of the buffer, to the client, from the address that
+    /// the datagram came to.
+    Response(Response),
+    /// It sends data of the datagram to a peer, from the socket that it keeps by the number `relay`.
     ToPeer {
         relay: u64,
         peer: Endpoint,
-        data: &'d [u8],
+        data: Span,
     },
+}
+
+/// A part of a datagram.
+#[derive(Clone, Copy, Debug, PartialEq, Eq)]
+pub struct Span {
+    /// The offset of its first byte.
+    pub at: usize,
+    /// How many bytes it has.
+    pub length: usize,
+}
+
+impl Span {
+    ghost use Rattle.std.specs.Prelude.{◌≡◌, ◌+◌, ◌<◌, MatchOption, length, slice_range};
+
+    /// Borrows the bytes of a datagram that the span covers. `None` if the datagram is shorter.
+    pub fn of<'d>(&self, datagram: &'d [u8]) -> Option<&'d [u8]>
+        ensures { MatchOption result (length datagram.now < self.now.at + self.now.length)
+            (λ part. part.now ≡ slice_range datagram.now self.now.at (self.now.at + self.now.length)) }
+    {
+        datagram.get(self.at..self.at.checked_add(self.length)?)
+    }
+}
+
+/// A response to a client.
+#[derive(Clone, Copy, Debug, PartialEq, Eq)]
+pub struct Response {
+    /// How many bytes it has, or why it isn't in the buffer. The request has taken effect all the
+    /// same: the client sends it again.
+    pub written: Result<usize, StunWriteError>,
+    /// The code of an error response; `None` of a success response.
+    pub code: Option<u16>,
+    /// The socket that the request opened an allocation with, if it did.
+    pub opened: Option<Opened>,
+}
+
+/// A socket that was ready and is an allocation's from now on. The program keeps it in a map by
+/// `number`, which no other allocation has until `TurnServer::poll` returns it, and has another one
+/// ready for the next call.
+#[derive(Clone, Copy, Debug, PartialEq, Eq)]
+pub struct Opened {
+    /// The number by which [`Action::ToPeer`], `TurnServer::on_peer_datagram` and `TurnServer::poll`
+    /// name the socket.
+    pub number: u64,
+    /// The socket's address, as it was offered.
+    pub relayed: Endpoint,
+}
+
+/// Where data of a peer goes, with what comes before and after it: the head is at the end of the
+/// buffer before the data, and zeros follow the data.
+#[derive(Clone, Copy, Debug, PartialEq, Eq)]
+pub struct Delivery {
+    /// The client, the address that the message comes from, and the protocol.
+    pub to: FiveTuple,
+    /// How many bytes come before the data, at most 48.
+    pub head_length: u16,
+    /// How many zeros follow it, at most 3.
+    pub padding: u16,
 }

@@ -15,9 +15,10 @@ ghost use Rattle.stun_types.specs.Replies.{error_attribute};
 ghost use Rattle.stun_authentication.specs.Writing.{Lengthens};
 ghost use Rattle.turn_attrs.specs.Turn.{XOR_RELAYED_ADDRESS, seconds_of};
 ghost use Rattle.turn_table.specs.Events.{allocated};
-ghost use Rattle.turn_server.specs.Answers.{table_answer, answer_class, address_attribute, lifetime_attribute, allocation_attributes, no_ipv6, family_left, answer_content, software_attributes, answer_attributes, list_attribute};
+ghost use Rattle.turn_table.specs.Outputs.{answer_of};
+ghost use Rattle.turn_server.specs.Answers.{answer_class, address_attribute, lifetime_attribute, allocation_attributes, no_ipv6, family_left, answer_content, software_attributes, answer_attributes, list_attribute};
 
-use crate::{Answer, socket_of};
+use crate::socket_of;
 use stun_types::attribute::{
     AttributeStaticType, AttributeType, ErrorCode, Software, UnknownAttributes, XorMappedAddress,
 };
@@ -25,7 +26,7 @@ use stun_types::message::{Message, StunWriteError, TransactionId};
 use stun_types::prelude::*;
 use turn_attrs::attribute_types::{ADDITIONAL_ADDRESS_FAMILY, ADDRESS_ERROR_CODE};
 use turn_attrs::{Lifetime, XorRelayedAddress};
-use turn_table::Endpoint;
+use turn_table::{Endpoint, Reply};
 
 /// The value of an ADDRESS-ERROR-CODE for IPv6: the family, a zero, 440 and its reason phrase.
 const NO_IPV6: &[u8] = b"\x02\x00\x04\x28Address Family Not Supported";
@@ -216,38 +217,40 @@ fn add_allocation<B: MessageWrite>(
 /// Adds what a success response says.
 fn add_content<B: MessageWrite>(
     request: &Message<'_>,
-    answer: Answer,
+    reply: Reply,
     client: Endpoint,
     write: &mut B,
 ) -> Result<(), StunWriteError>
-    requires { answer_class (table_answer answer) ≡ Success }
+    requires { answer_class (answer_of reply) ≡ Success }
     ensures { Lengthens result (B.state write.old) (B.state write.new)
-        (answer_content (message_bytes request.now) client (table_answer answer)) }
+        (answer_content (message_bytes request.now) client (answer_of reply)) }
 {
-    match answer {
-        Answer::Allocated { relayed, lifetime } => {
-            add_allocation(request, relayed, lifetime, client, write)
-        }
-        Answer::Refreshed(lifetime) => add_lifetime(lifetime, write),
-        Answer::Done => Ok(()),
-        Answer::Refused(_) => unreachable!(),
+    match reply {
+        Reply::Allocated {
+            relayed,
+            lifetime,
+            ..
+        } => { add_allocation(request, relayed, lifetime, client, write) }
+        Reply::Refreshed(lifetime) => add_lifetime(lifetime, write),
+        Reply::Done => Ok(()),
+        Reply::Refused(_) => unreachable!(),
     }
 }
 
 /// Adds the attributes of a success response.
 pub(crate) fn add_success<B: MessageWrite>(
     request: &Message<'_>,
-    answer: Answer,
+    reply: Reply,
     client: Endpoint,
     software: Option<&Software>,
     write: &mut B,
 ) -> Result<(), StunWriteError>
-    requires { answer_class (table_answer answer) ≡ Success }
+    requires { answer_class (answer_of reply) ≡ Success }
     ensures { Lengthens result (B.state write.old) (B.state write.new)
         (answer_attributes (option_map (λ it. text_bytes it.now) software.entry) client
-        (message_bytes request.now) (table_answer answer)) }
+        (message_bytes request.now) (answer_of reply)) }
 {
-    add_content(request, answer, client, write)?;
+    add_content(request, reply, client, write)?;
     add_software(software, write)
 }
 

@@ -4,7 +4,9 @@
 ghost use Rattle.std.specs.Prelude.{◌≡◌, ◌||◌, true, false, None, Some, Ok, Err, MatchResult};
 ghost use Rattle.stun_types.specs.Message.{message_bytes};
 ghost use Rattle.turn_attrs.specs.Turn.{LIFETIME};
-ghost use Rattle.turn_server.specs.Allocating.{transport_fault, has_malformed, options_of, chosen, wish_from};
+ghost use Rattle.stun_grammar.specs.Headers.{id_field};
+ghost use Rattle.turn_server.specs.Allocating.{transport_fault, has_malformed, options_of, chosen, wish_from, allocate_of};
+ghost use Rattle.turn_server.specs.Wanted.{opening};
 ghost use Rattle.turn_server.specs.Values.{number_in};
 
 use crate::values::{byte_in, fixed_value, number_in};
@@ -145,7 +147,7 @@ impl Options {
 ///
 /// The code by which its client's address or its bytes refuse it, or by which there is no socket for
 /// it.
-pub(crate) fn read_wish(
+fn read_wish(
     request: &Message<'_>,
     client: Ip,
     sockets: &Sockets,
@@ -165,4 +167,19 @@ pub(crate) fn read_wish(
     }
     let address = options.socket(sockets)?;
     Ok((options.lifetime, address))
+}
+
+/// The lifetime and the socket's address of an Allocate request, or the code by which it gets none.
+pub(crate) fn read_allocate(
+    request: &Message<'_>,
+    client: Ip,
+    sockets: &Sockets,
+) -> (Option<u32>, Result<Endpoint, u16>)
+    ensures { let d = message_bytes request.now in
+        opening (id_field d) result.0 result.1 ≡ allocate_of client sockets.now d }
+{
+    match read_wish(request, client, sockets) {
+        Ok((lifetime, address)) => (lifetime, Ok(address)),
+        Err(code) => (None, Err(code)),
+    }
 }

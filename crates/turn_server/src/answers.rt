@@ -14,17 +14,17 @@ ghost use Rattle.stun_types.specs.Message.{message_bytes};
 ghost use Rattle.stun_types.specs.Replies.{error_attribute};
 ghost use Rattle.stun_authentication.specs.Writing.{FailsFor, no_room, sizes};
 ghost use Rattle.turn_table.specs.Events.{refused};
-ghost use Rattle.turn_server.specs.Answers.{table_answer, answer_class, software_attributes, answer_attributes, answer_text, code_fault, unfinished_refusal, answer_refusal, TABLE_CODES};
+ghost use Rattle.turn_table.specs.Outputs.{answer_of};
+ghost use Rattle.turn_server.specs.Answers.{answer_class, software_attributes, answer_attributes, answer_text, code_fault, unfinished_refusal, answer_refusal, TABLE_CODES};
 ghost use Rattle.turn_server.specs.Unfinished.{WritesUnfinished};
 
-use crate::Answer;
 use crate::adding::{add_refusal, add_success};
 use std::alloc::Global;
 use stun_authentication::Accepted;
 use stun_types::attribute::{AttributeStaticType, ErrorCode, Fingerprint, Software};
 use stun_types::message::{Message, StunWriteError};
 use stun_types::prelude::*;
-use turn_table::Endpoint;
+use turn_table::{Endpoint, Reply};
 
 /// The ERROR-CODE of a code, with its reason phrase.
 pub(crate) fn error_of(alloc: Global, code: u16) -> Result<ErrorCode, StunWriteError>
@@ -39,21 +39,21 @@ fn write_success<B: MessageWrite + Drop>(
     request: &Message<'_>,
     client: Endpoint,
     software: Option<&Software>,
-    answer: Answer,
+    reply: Reply,
     write: B,
 ) -> Result<B, StunWriteError>
     requires request { class_of (type_field (message_bytes request.now)) ≡ Request }
-    requires success { answer_class (table_answer answer) ≡ Success }
+    requires success { answer_class (answer_of reply) ≡ Success }
     requires empty { (B.state write).bytes ≡ [] }
     requires room { Fits (B.state write).greatest 20 }
     ensures { let r = message_bytes request.now in
         let attributes = answer_attributes (option_map (λ it. text_bytes it.now) software.entry)
-        client r (table_answer answer) in
+        client r (answer_of reply) in
         WritesUnfinished (λ w. B.state w) result (B.state write).greatest Success r attributes
         (no_room (B.state write).greatest 20 (sizes attributes)) }
 {
     let mut write = Message::builder_success(request, write)?;
-    add_success(request, answer, client, software, &mut write)?;
+    add_success(request, reply, client, software, &mut write)?;
     Ok(write)
 }
 
@@ -86,21 +86,21 @@ fn write_unfinished<B: MessageWrite + Drop>(
     request: &Message<'_>,
     client: Endpoint,
     software: Option<&Software>,
-    answer: Answer,
+    reply: Reply,
     write: B,
 ) -> Result<B, StunWriteError>
     requires request { class_of (type_field (message_bytes request.now)) ≡ Request }
     requires empty { (B.state write).bytes ≡ [] }
     requires room { Fits (B.state write).greatest 20 }
-    ensures { let r = message_bytes request.now in let answer = table_answer answer in
+    ensures { let r = message_bytes request.now in let answer = answer_of reply in
         let attributes = answer_attributes (option_map (λ it. text_bytes it.now) software.entry)
         client r answer in
         WritesUnfinished (λ w. B.state w) result (B.state write).greatest (answer_class answer) r
         attributes (unfinished_refusal (B.state write).greatest answer attributes) }
 {
-    match answer {
-        Answer::Refused(code) => write_error(alloc, request, software, code, write),
-        _ => write_success(request, client, software, answer, write),
+    match reply {
+        Reply::Refused(code) => write_error(alloc, request, software, code, write),
+        _ => write_success(request, client, software, reply, write),
     }
 }
 
@@ -109,58 +109,20 @@ fn write_unfinished<B: MessageWrite + Drop>(
 /// XOR-MAPPED-ADDRESS, which is the address of the `client`, and with an ADDRESS-ERROR-CODE of 440 for
 /// IPv6 if the request has an ADDITIONAL-ADDRESS-FAMILY, since it gets one address alone; to Refresh
 /// with LIFETIME; to another request with none of these; or the error response with an ERROR-CODE and
-/// the reason phrase of [`ErrorCode::default_reason_for_code`]. A SOFTWARE follows, if there is one, then the integrity
-/// attribute by the user's key and [`Accepted::reply_algorithm`] (RFC 8489, section 9.2.4), and a
-/// FINGERPRINT if the request has one.
-///
-/// # Requires
-///
-/// `request` is a request, and the writer is as for `Message::builder`.
+/// its reason phrase. A SOFTWARE follows, if there is one, then the integrity attribute by the user's
+/// key, and a FINGERPRINT if the request has one.
 ///
 /// # Errors
 ///
-/// `OutOfMemory` if an allocation failed: only an ERROR-CODE takes memory, and the writer. Else the
-/// first of these that applies:
-///
-/// - `OutOfRange { value, min: 300, max: 699 }` if the code of an error is below 300 or above 699;
-/// - `TooSmall { expected, actual }` if the message would be longer with an attribute than the
-///   writer takes: that length, and [`MessageWrite::max_size`]; and
-///   `TooLarge { expected: 65555, actual }` if it would be longer than a message may be. The first
-///   attribute that doesn't fit decides;
-/// - `IntegrityFailed`, before the integrity attribute, if the key was made for the other algorithm.
-///
-/// # Examples
-///
-/// ```
-/// use stun_authentication::{Accepted, Identity};
-/// use stun_types::message::{IntegrityAlgorithm, IntegrityKey, Message, MessageWriteVec};
-/// use stun_types::prelude::*;
-/// use turn_attrs::{Lifetime, XorRelayedAddress};
-/// use turn_server::{Answer, endpoint_of, write_answer};
-///
-/// // An Allocate request for UDP, and its user as `judge` returns it.
-/// let request = Message::from_bytes(
-///     b"\x00\x03\x00\x08\x21\x12\xA4\x42abcdefghijkl\x00\x19\x00\x04\x11\x00\x00\x00",
-/// )?;
-/// let (algorithm, reply_algorithm) = (IntegrityAlgorithm::Sha1, IntegrityAlgorithm::Sha1);
-/// let (user, key) = (Identity::Name(b"user"), IntegrityKey::new(alloc, &[7; 16], None)?);
-/// let accepted = Accepted { user, key, algorithm, reply_algorithm };
-/// let client = endpoint_of("192.0.2.1:32853".parse()?);
-/// let relayed = endpoint_of("192.0.2.15:50000".parse()?);
-/// let (answer, vector) = (Answer::Allocated { relayed, lifetime: 600 }, MessageWriteVec::new(alloc));
-/// let reply = write_answer(alloc, &request, client, None, answer, &accepted, vector)?.finish();
-/// let reply = Message::from_bytes(&reply)?;
-/// let address = reply.attribute::<XorRelayedAddress>(alloc)?;
-/// assert_eq!(rt; address.addr(reply.transaction_id()), "192.0.2.15:50000".parse()?);
-/// assert_eq!(rt; reply.attribute::<Lifetime>(alloc)?.seconds(), 600);
-/// assert_eq!(rt; reply.validate_integrity_with_key(&accepted.key), Ok(algorithm));
-/// ```
-pub fn write_answer<B: MessageWrite + Drop>(
+/// `OutOfMemory` if an allocation failed. Else the first of these that applies: `OutOfRange` if the code
+/// is none of an ERROR-CODE; `TooSmall` or `TooLarge` by the first attribute that doesn't fit; and
+/// `IntegrityFailed` if the key was made for the other algorithm.
+pub(crate) fn write_answer<B: MessageWrite + Drop>(
     alloc: Global,
     request: &Message<'_>,
     client: Endpoint,
     software: Option<&Software>,
-    answer: Answer,
+    reply: Reply,
     accepted: &Accepted<'_>,
     write: B,
 ) -> Result<B, StunWriteError>
@@ -170,13 +132,13 @@ pub fn write_answer<B: MessageWrite + Drop>(
     ensures text { let r = message_bytes request.now in
         IfOk result (λ w. (B.state w).bytes
         ≡ answer_text (option_map (λ it. text_bytes it.now) software.entry) client r
-        (table_answer answer) (key_bytes accepted.now.key) accepted.now.reply_algorithm) }
+        (answer_of reply) (key_bytes accepted.now.key) accepted.now.reply_algorithm) }
     ensures answer { let r = message_bytes request.now in
         FailsFor (answer_refusal (B.state write).greatest
-        (option_map (λ it. text_bytes it.now) software.entry) client r (table_answer answer)
+        (option_map (λ it. text_bytes it.now) software.entry) client r (answer_of reply)
         (key_algorithm accepted.now.key) accepted.now.reply_algorithm) result }
 {
-    let mut write = write_unfinished(alloc, request, client, software, answer, write)?;
+    let mut write = write_unfinished(alloc, request, client, software, reply, write)?;
     accepted.finish_reply(request.has_attribute(Fingerprint::TYPE), &mut write)?;
     Ok(write)
 }

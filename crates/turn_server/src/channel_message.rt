@@ -1,9 +1,11 @@
 //! ChannelData messages as datagrams (RFC 8656, sections 12.4 to 12.6).
 
-ghost use Rattle.std.specs.Prelude.{◌≡◌, None, Some, MatchOption};
+ghost use Rattle.std.specs.Prelude.{◌≡◌, None, MatchOption};
 ghost use Rattle.turn_attrs.specs.Channels.{channel_field};
 ghost use Rattle.turn_server.specs.ChannelMessages.{is_channel_byte, data_in, last_channel};
+ghost use Rattle.turn_server.specs.Spans.{IsData};
 
+use crate::Span;
 use byteorder::{BigEndian, ByteOrder};
 use stun_framing::ChannelRange;
 use stun_types::attribute::pad_attribute_len;
@@ -22,10 +24,9 @@ pub(crate) fn is_channel_byte(old_channels: bool, first: u8) -> bool
 
 /// The number of a channel and the data on it, which the datagram may pad to a multiple of 4. `None`
 /// if it is cut off, or longer.
-pub(crate) fn read_channel_data(datagram: &[u8]) -> Option<(u16, &[u8])>
+pub(crate) fn read_channel_data(datagram: &[u8]) -> Option<(u16, Span)>
     ensures { MatchOption result (data_in datagram.now ≡ None)
-        (λ read. (data_in datagram.now ≡ Some read.1.now)
-        × (read.0 ≡ channel_field datagram.now)) }
+        (λ read. (read.0 ≡ channel_field datagram.now) × IsData datagram.now read.1) }
 {
     if datagram.len() < 4 {
         return None;
@@ -35,7 +36,9 @@ pub(crate) fn read_channel_data(datagram: &[u8]) -> Option<(u16, &[u8])>
     if datagram.len() < end || pad_attribute_len(end) < datagram.len() {
         return None;
     }
-    let (_, behind) = datagram.split_at(4);
-    let (data, _) = behind.split_at(end - 4);
+    let data = Span {
+        at: 4,
+        length: end - 4,
+    };
     Some((channel, data))
 }

@@ -1,38 +1,49 @@
-//! How a client's datagram is judged.
+//! What comes of a client's datagram.
 
-use crate::Request;
+ghost use Rattle.std.specs.Prelude.{◌≡◌};
+ghost use Rattle.stun_base.specs.MessageTypes.{class_of};
+ghost use Rattle.stun_base.specs.declared.message_class.MessageClass.TheVariants.{Request};
+ghost use Rattle.stun_grammar.specs.Headers.{type_field};
+ghost use Rattle.stun_types.specs.Message.{message_bytes};
+
+use crate::Span;
 use stun_authentication::{Accepted, Refusal};
+use stun_types::message::Message;
 use turn_table::{Endpoint, UserId};
 
-/// The judgment of a client's datagram, by [`judge`](crate::judge). It borrows the data.
-#[derive(Debug, Drop)]
-pub enum Judged<'d> {
-    /// The datagram is dropped.
+/// A request that was read.
+#[derive(Drop)]
+pub(crate) struct Asking<'d> {
+    pub(crate) message: Message<'d>,
+    ghost is_request: { class_of (type_field (message_bytes message)) ≡ Request },
+}
+
+/// What comes of a client's datagram. A request is read once: it comes along.
+#[derive(Drop)]
+pub(crate) enum Judged<'d> {
+    /// Nothing.
     Dropped,
-    /// A Binding request: `stun_server` makes the reply.
-    Binding,
-    /// A request that is refused by an error response that isn't signed: 400, 401 or 438, as
-    /// `stun_authentication::refuse_long_term` writes them.
-    Refused(Refusal),
+    /// A Binding request, which gets the reply of a server without credentials.
+    Binding(Asking<'d>),
+    /// A request that is refused by an error response that isn't signed: 400, 401 or 438.
+    Refused(Asking<'d>, Refusal),
     /// A user's request that shows types that aren't comprehended: it is refused with 420, signed by
-    /// the user's key. [`COMPREHENDED`](crate::COMPREHENDED) says how they are listed.
-    Unknown(Accepted<'d>),
-    /// A Send indication: the data is for the peer (RFC 8656, section 11.2).
+    /// the user's key.
+    Unknown(Asking<'d>, Accepted<'d>),
+    /// The data of a Send indication, for a peer.
     Sent {
         peer: Endpoint,
-        data: &'d [u8],
+        data: Span,
     },
-    /// A ChannelData message: the data is for the peer of the channel, which may have any number of
-    /// 16 bits (RFC 8656, section 12.6).
+    /// The data of a ChannelData message.
     SentOn {
         channel: u16,
-        data: &'d [u8],
+        data: Span,
     },
-    /// A user's request for the table: the user's number, and what it asks for. The answer is signed by
-    /// the user's key.
+    /// A user's request for the table. The answer is signed by the user's key.
     Asked {
+        request: Asking<'d>,
         user: UserId,
-        request: Request<'d>,
         accepted: Accepted<'d>,
     },
 }

@@ -2,46 +2,42 @@
 //! client's datagram for, what it keeps and what it does, and its responses.
 #![tactic(auto)]
 
+mod access;
 mod accounts;
 mod action;
 mod adding;
 mod addresses;
 mod allocate;
-mod answer;
 mod answers;
 mod channel_message;
 mod comprehended;
+mod delivering;
 mod endpoints;
 mod indication;
 mod judged;
 mod judging;
 mod laws;
-mod peer_list;
 mod peers;
 mod request;
+mod responding;
 mod server;
 mod site;
 mod sockets;
 mod unknown;
 mod values;
 
+pub use access::Access;
 pub use accounts::user_of;
-pub use action::Action;
+pub use action::{Action, Delivery, Opened, Response, Span};
 pub use addresses::endpoint_of;
-pub use answer::Answer;
-pub use answers::{codes_are_written, write_answer};
+pub use answers::codes_are_written;
 pub use comprehended::COMPREHENDED;
 pub use endpoints::{socket_of, sockets_are_of_endpoints};
-pub use judged::Judged;
-pub use judging::judge;
 pub use laws::{
     clients_do_not_meet, datagrams_are_warranted, judgments_are_so, permitted_datagrams_pass,
     requests_are_authentic, strangers_change_nothing,
 };
-pub use peer_list::PEERS;
-pub use peers::PeerAddresses;
-pub use request::Request;
+pub use peers::PEERS;
 pub use server::TurnServer;
 pub use site::Site;
 pub use sockets::{Ready, Sockets};
-pub use unknown::write_unknown;

@@ -1,77 +1,65 @@
 //! A TURN server.
 
-ghost use Rattle.std.specs.Prelude.{◌≡◌, ◌≤◌, ◌<◌, ℕ, List, Bool, IfOk, IsOk, OnErr, MatchOption, length, false};
+ghost use Rattle.std.specs.Prelude.{◌≡◌, ◌≤◌, ℕ, List, Bool, Option, IfOk, IsOk, OnErr, MatchOption, length, true, false};
+ghost use Rattle.stun_values.specs.declared.algorithm.PasswordAlgorithmValue.{PasswordAlgorithmValue};
+ghost use Rattle.stun_authentication.specs.Identities.{Who};
+ghost use Rattle.stun_authentication.specs.Lookups.{UserKey};
 ghost use Rattle.turn_table.specs.declared.endpoints.Ip.{Ip};
 ghost use Rattle.turn_table.specs.declared.endpoints.Endpoint.{Endpoint};
-ghost use Rattle.turn_table.specs.Outputs.{setup_of, answer_of, sending, receiving};
-ghost use Rattle.turn_table.specs.Allocates.{offered, answer_to};
-ghost use Rattle.turn_table.specs.Events.{allocate, arrives};
+ghost use Rattle.turn_table.specs.Outputs.{setup_of, answer_of, opened_in, sending};
+ghost use Rattle.turn_table.specs.Allocates.{offered};
+ghost use Rattle.turn_table.specs.Events.{allocate};
 ghost use Rattle.turn_table.specs.Requests.{asked};
 ghost use Rattle.turn_table.specs.Polls.{Polls};
 ghost use Rattle.turn_table.specs.Runs.{begun};
-ghost use Rattle.turn_table.specs.Steps.{step};
 ghost use Rattle.turn_table.specs.Users.{user_number};
+ghost use Rattle.stun_base.specs.MessageTypes.{method_of};
+ghost use Rattle.stun_grammar.specs.Headers.{type_field};
+ghost use Rattle.stun_types.specs.Message.{message_bytes};
+ghost use Rattle.turn_server.specs.declared.access.Access.{Access as AccessIs};
+ghost use Rattle.turn_server.specs.Access.{nonces_at};
 ghost use Rattle.turn_server.specs.Acting.{data_act, acted};
-ghost use Rattle.turn_server.specs.Actions.{Acts, Does, IsDone, IsAnswered, opened_in};
-ghost use Rattle.turn_server.specs.Answers.{table_answer};
+ghost use Rattle.turn_server.specs.Actions.{Acts, Does, IsDone, IsAnswered};
 ghost use Rattle.turn_server.specs.ChannelMessages.{last_channel};
+ghost use Rattle.turn_server.specs.Delivering.{Receives};
 ghost use Rattle.turn_server.specs.Judging.{Judged as TakenFor, needs_key as asks_for_key};
-ghost use Rattle.turn_server.specs.PeersLeft.{peers_left};
 ghost use Rattle.turn_server.specs.Reporting.{Tells};
-ghost use Rattle.turn_server.specs.Requests.{permitting, wanted_by};
+ghost use Rattle.turn_server.specs.Allocating.{allocate_of};
+ghost use Rattle.turn_server.specs.Requests.{permit_of, request_of};
 ghost use Rattle.turn_server.specs.Sites.{site_of};
+ghost use Rattle.turn_server.specs.Spans.{StandsAt};
 ghost use Rattle.turn_server.specs.Wanted.{request_with};
 
-use crate::judging::needs_key;
-use crate::peer_list::collected;
-use crate::{Action, Answer, Judged, PeerAddresses, Request, Site, judge};
+use crate::allocate::read_allocate;
+use crate::delivering::deliver;
+use crate::judged::Judged;
+use crate::judging::{judge, needs_key};
+use crate::peers::peers_of;
+use crate::request::read_request;
+use crate::responding::{answer, bind, refuse, refuse_types};
+use crate::{Access, Action, Delivery, Site, Sockets, Span, socket_of};
 use std::alloc::{AllocError, Global};
 use std::marker::Model;
-use stun_authentication::{LongTermKeys, Nonces, Policy};
-use stun_types::message::TransactionId;
-use turn_attrs::error_codes::INSUFFICIENT_CAPACITY;
+use stun_authentication::LongTermKeys;
+use stun_types::message::{Message, TransactionId};
+use turn_attrs::methods::{ALLOCATE, CREATE_PERMISSION};
 use turn_table::{
-    AllocateReply, Endpoint, FiveTuple, Limits, PeerPolicy, Reply, Request as TableRequest,
-    ToClient, ToPeer, TurnTable, UserId,
+    Endpoint, FiveTuple, Limits, PeerPolicy, Reply, Request, ToPeer, TurnTable, UserId,
 };
 
 /// Data that goes to a peer, or is dropped.
-fn relayed<'d>(to: Option<ToPeer>, data: &'d [u8]) -> Action<'d>
-    ensures { Does (data_act (sending to «data».now)) result }
+fn relayed(to: Option<ToPeer>, span: Span) -> Action
+    ensures { (access : AccessIs) (now : ℕ) (client : Endpoint) (bytes d slice : List ℕ)
+        → StandsAt span bytes d
+        → Does access now client d (data_act (sending to bytes)) slice slice result }
 {
     match to {
-        Some(ToPeer { relay, peer }) => Action::ToPeer { relay, peer, data },
-        None => Action::Dropped,
-    }
-}
-
-/// The answer to an Allocate request, and the number of the socket that was ready, if it is an
-/// allocation's now.
-fn answer_to_allocate(reply: AllocateReply) -> (Answer, Option<u64>)
-    ensures answer { table_answer result.0 ≡ answer_to reply }
-    ensures taken { result.1 ≡ opened_in reply }
-{
-    match reply {
-        AllocateReply::Opened {
+        Some(ToPeer { relay, peer }) => Action::ToPeer {
             relay,
-            relayed,
-            lifetime,
-        } => (Answer::Allocated { relayed, lifetime }, Some(relay)),
-        AllocateReply::Again { relayed, lifetime } => {
-            (Answer::Allocated { relayed, lifetime }, None)
-        }
-        AllocateReply::Refused(code) => (Answer::Refused(code), None),
-    }
-}
-
-/// The answer to any other request.
-fn answer_by(reply: Reply) -> Answer
-    ensures { table_answer result ≡ answer_of reply }
-{
-    match reply {
-        Reply::Refreshed(lifetime) => Answer::Refreshed(lifetime),
-        Reply::Done => Answer::Done,
-        Reply::Refused(code) => Answer::Refused(code),
+            peer,
+            data: span,
+        },
+        None => Action::Dropped,
     }
 }
 
@@ -79,8 +67,8 @@ fn answer_by(reply: Reply) -> Answer
 /// permissions and `C` channels each.
 ///
 /// Each call takes the caller's clock, a monotonic one: nanoseconds since a beginning of its choice. A
-/// clock that steps back counts as stopped. No call but [`TurnServer::new`] takes memory, except to
-/// look up a user's key.
+/// clock that steps back counts as stopped. No call but [`TurnServer::new`] takes memory that it keeps: a
+/// user's key is looked up, and a response written, with memory that is given back.
 ///
 /// # Examples
 ///
@@ -90,14 +78,14 @@ fn answer_by(reply: Reply) -> Answer
 /// use std::alloc::Global;
 /// use std::collections::BTreeMap;
 /// use std::net::SocketAddr;
-/// use stun_authentication::{Challenge, Logins, NonceMaker, Policy, Refusal, Retry};
-/// use stun_authentication::{SecurityFeatures, answer_challenge, challenge_of, refuse_long_term};
+/// use stun_authentication::{Logins, NonceMaker, Policy, Retry, SecurityFeatures};
+/// use stun_authentication::{answer_challenge, challenge_of};
 /// use stun_types::attribute::{PasswordAlgorithmValue, Realm};
 /// use stun_types::message::{IntegrityKey, LongTermCredentials, Message, MessageClass, MessageType};
 /// use stun_types::message::{MessageWriteVec, Method, StunWriteError, TransactionId};
 /// use stun_types::prelude::*;
-/// use turn_attrs::{RequestedTransport, XorPeerAddress, methods, write_data_head};
-/// use turn_server::{Action, Answer, Ready, Site, Sockets, TurnServer, endpoint_of, socket_of};
+/// use turn_attrs::{RequestedTransport, XorPeerAddress, methods};
+/// use turn_server::{Access, Action, Ready, Site, Sockets, TurnServer, endpoint_of, socket_of};
 /// use turn_table::peers::Peers;
 /// use turn_table::{FiveTuple, Limits};
 ///
@@ -117,91 +105,84 @@ fn answer_by(reply: Reply) -> Answer
 ///     Ok(request.finish())
 /// }
 ///
-/// let limits = Limits {
-///     allocations: 100,
-///     of_user: 10,
-///     greatest_lifetime: 3600,
-///     channel_permits: false,
-///     old_channels: false,
-/// };
-/// // (a program draws these two numbers, and the secret below)
-/// let mut server: TurnServer<16, 16> = TurnServer::new(alloc, limits, [1, 2])?;
-/// let client: SocketAddr = "192.0.2.1:32853".parse()?;
-/// let own: SocketAddr = "203.0.113.1:3478".parse()?;
-/// let from = FiveTuple {
-///     client: endpoint_of(client),
-///     server: endpoint_of(own),
-///     transport: 17,
+/// // (a program draws these two numbers, and the secret)
+/// let mut server: TurnServer<16, 16> = TurnServer::new(alloc, Limits::default(), [1, 2])?;
+/// let secret = IntegrityKey::new(alloc, &[7; 32], None)?;
+/// let access = Access {
+///     nonces: NonceMaker::new(secret, SecurityFeatures::default(), 600)?,
+///     realm: Realm::new(alloc, "example.org")?,
+///     policy: Policy::default(),
+///     software: None,
 /// };
 /// let relayed = endpoint_of("203.0.113.1:50000".parse()?);
 /// let ready = Ready { any: Some(relayed), even: Some(relayed) };
-/// let site = Site {
-///     policy: Policy::default(),
-///     realm: "example.org",
-///     sockets: Sockets { ipv4: Some(ready), ipv6: None },
-/// };
-/// let secret = IntegrityKey::new(alloc, &[7; 32], None)?;
-/// let maker = NonceMaker::new(secret, SecurityFeatures::default(), 600)?;
+/// let site = Site { access: &access, sockets: Sockets { ipv4: Some(ready), ipv6: None } };
 /// let (name, password) = (String::from_str(alloc, "alice")?, String::from_str(alloc, "wonderland")?);
 /// let users = [LongTermCredentials::new(name, password)];
-/// let (nonces, keys) = (maker.nonces(1, client, &[]), Logins::new(&users));
+/// let keys = Logins::new(&users);
+/// let own: SocketAddr = "203.0.113.1:3478".parse()?;
 /// let peers = Peers { denied: &[], allowed: &[], listening: &[own] };
+/// let client = endpoint_of("192.0.2.1:32853".parse()?);
+/// let from = FiveTuple { client, server: endpoint_of(own), transport: 17 };
+/// let mut buffer = [0; 1500];
 ///
-/// // An Allocate request that isn't signed, after a second: `refuse_long_term` writes the 401.
+/// // An Allocate request that isn't signed, after a second: the response is a 401.
 /// let request = b"\x00\x03\x00\x08\x21\x12\xA4\x42abcdefghijkl\x00\x19\x00\x04\x11\x00\x00\x00";
 /// let now = 1_000_000_000;
 /// let action =
-///     server.on_client_datagram(alloc, now, &from, request, &site, &nonces, &keys, &peers)?;
-/// assert!(rt; matches!(action, Action::Refused(Refusal::Unauthenticated)));
-/// let (realm, nonce) = (Realm::new(alloc, "example.org")?, maker.make(alloc, 1, &client)?);
-/// let challenge = Challenge::new(alloc, &realm, &nonce, &[])?;
-/// let (request, vector) = (Message::from_bytes(request)?, MessageWriteVec::new(alloc));
-/// let refusal = Refusal::Unauthenticated;
-/// let refused = refuse_long_term(alloc, &request, refusal, &challenge, vector)?.finish();
+///     server.on_client_datagram(alloc, now, &from, request, &site, &keys, &peers, &mut buffer)?;
+/// let Action::Response(response) = action else {
+///     return Err("no response")?;
+/// };
+/// assert_eq!(rt; response.code, Some(401));
 ///
 /// // The client answers it, and has an allocation: the socket is kept by its number.
-/// let refused = Message::from_bytes(&refused)?;
+/// let refused = Message::from_bytes(&buffer[..response.written?])?;
 /// let retry = challenge_of(&refused, &[PasswordAlgorithmValue::MD5], None, false)?;
+/// let retry = retry.into_owned(alloc)?;
 /// let request = signed(alloc, methods::ALLOCATE, 2, &RequestedTransport::new(17), &retry)?;
 /// let action =
-///     server.on_client_datagram(alloc, now, &from, &request, &site, &nonces, &keys, &peers)?;
-/// let Action::Answered { answer, took, .. } = action else {
-///     return Err("no answer")?;
+///     server.on_client_datagram(alloc, now, &from, &request, &site, &keys, &peers, &mut buffer)?;
+/// let Action::Response(response) = action else {
+///     return Err("no response")?;
 /// };
-/// assert_eq!(rt; answer, Answer::Allocated { relayed, lifetime: 600 });
-/// let number = took.ok_or("no allocation")?;
+/// let opened = response.opened.ok_or("no allocation")?;
+/// assert!(rt; response.code.is_none() && opened.relayed == relayed);
 /// let mut sockets = BTreeMap::new(alloc);
-/// assert!(rt; sockets.insert(number, "the socket at 203.0.113.1:50000").is_ok());
+/// assert!(rt; sockets.insert(opened.number, "the socket at 203.0.113.1:50000").is_ok());
 ///
-/// // A CreatePermission request: `write_answer` writes this response too.
+/// // A CreatePermission request.
 /// let peer: SocketAddr = "198.51.100.7:4000".parse()?;
 /// let permitted = XorPeerAddress::new(peer, TransactionId::from(3));
 /// let request = signed(alloc, methods::CREATE_PERMISSION, 3, &permitted, &retry)?;
 /// let action =
-///     server.on_client_datagram(alloc, now, &from, &request, &site, &nonces, &keys, &peers)?;
-/// assert!(rt; matches!(action, Action::Answered { answer: Answer::Done, took: None, .. }));
+///     server.on_client_datagram(alloc, now, &from, &request, &site, &keys, &peers, &mut buffer)?;
+/// assert!(rt; matches!(action, Action::Response(response) if response.code.is_none()));
 ///
 /// // A Send indication: its data goes to the peer, from that socket.
 /// let sent = b"\x00\x16\x00\x18\x21\x12\xA4\x42abcdefghijkl\
 ///     \x00\x12\x00\x08\x00\x01\x2E\xB2\xE7\x21\xC0\x45\x00\x13\x00\x05hello\0\0\0";
 /// let action =
-///     server.on_client_datagram(alloc, now, &from, sent, &site, &nonces, &keys, &peers)?;
+///     server.on_client_datagram(alloc, now, &from, sent, &site, &keys, &peers, &mut buffer)?;
 /// let Action::ToPeer { relay, peer: to, data } = action else {
 ///     return Err("no data")?;
 /// };
 /// assert!(rt; sockets.contains_key(&relay) && socket_of(to) == peer);
-/// assert_eq!(rt; data, b"hello".as_slice());
+/// assert_eq!(rt; data.of(sent), Some(b"hello".as_slice()));
 ///
 /// // The peer answers `hi`, at that socket: the client gets it in a Data indication.
-/// let to = server.on_peer_datagram(now, number, endpoint_of(peer)).ok_or("no client")?;
-/// assert!(rt; socket_of(to.tuple.client) == client && to.channel.is_none());
 /// let mut buffer = [0; 48 + 1500];
 /// buffer[48..50].copy_from_slice(b"hi");
 /// let (before, _) = buffer.split_at_mut(48);
-/// let head = write_data_head(TransactionId::from(4), peer, 2, 65507, before)?;
+/// let id = TransactionId::from(4);
+/// let delivery = server
+///     .on_peer_datagram(now, opened.number, endpoint_of(peer), 2, id, before)
+///     .ok_or("no client")?;
+/// assert!(rt; delivery.to == from);
 /// let indication = b"\x00\x17\x00\x14\x21\x12\xA4\x42\0\0\0\0\0\0\0\0\0\0\0\x04\
 ///     \x00\x12\x00\x08\x00\x01\x2E\xB2\xE7\x21\xC0\x45\x00\x13\x00\x02hi\0\0";
-/// assert_eq!(rt; &buffer[48 - head.length..50 + head.padding], indication.as_slice());
+/// let end = 50 + usize::from(delivery.padding);
+/// assert_eq!(rt; &buffer[48 - usize::from(delivery.head_length)..end], indication.as_slice());
 /// ```
 #[derive(Drop)]
 pub struct TurnServer<const P: usize, const C: usize> {
@@ -239,72 +220,52 @@ impl<const P: usize, const C: usize> TurnServer<P, C> {
         })
     }
 
-    /// Answers a request that isn't Allocate.
-    fn fulfil<A: PeerPolicy>(
-        &mut self,
-        now: u64,
-        from: &FiveTuple,
-        user: UserId,
-        request: TableRequest<'_>,
-        policy: &A,
-    ) -> (Answer, Option<u64>)
-        ensures answer { let setup = setup_of self.old.limits P C (A.allows_address policy.now)
-            (A.allows_port policy.now) in
-            IsAnswered setup from.now (user_number user) (asked request.entry) now self.old.state
-            self.new.state result.0 result.1 }
-        ensures limits { self.new.limits ≡ self.old.limits }
-    {
-        let reply = self.table.request(now, from, user, request, policy);
-        (answer_by(reply), None)
-    }
-
     /// Answers an Allocate request.
     fn allocate(
         &mut self,
         now: u64,
         from: &FiveTuple,
         user: UserId,
-        id: TransactionId,
-        lifetime: Option<u32>,
-        wish: Result<Endpoint, u16>,
-    ) -> (Answer, Option<u64>)
+        request: &Message<'_>,
+        sockets: &Sockets,
+    ) -> Reply
         ensures answer { (address : Ip → Bool) (port : Endpoint → Bool)
             → let setup = setup_of self.old.limits P C address port in
+            let d = message_bytes request.now in
             (relay : ℕ) × IsAnswered setup from.now (user_number user)
-            (allocate id lifetime (offered relay wish)) now self.old.state self.new.state result.0 result.1 }
+            (request_with relay (allocate_of from.now.client.ip sockets.now d)) now self.old.state
+            self.new.state (answer_of result) (opened_in result) }
         ensures limits { self.new.limits ≡ self.old.limits }
     {
-        let reply = self
-            .table
-            .allocate(now, from, user, u128::from(id), lifetime, wish);
-        answer_to_allocate(reply)
+        let id = u128::from(request.transaction_id());
+        let (lifetime, wish) = read_allocate(request, from.client.ip, sockets);
+        self.table.allocate(now, from, user, id, lifetime, wish)
     }
 
     /// Answers a CreatePermission request.
-    #[tactic(auto, using(crate::proofs::ActingLemmas::few_permitted, crate::proofs::ActingLemmas::many_refused))]
     fn permit<A: PeerPolicy>(
         &mut self,
         now: u64,
         from: &FiveTuple,
         user: UserId,
-        peers: &mut PeerAddresses<'_>,
+        request: &Message<'_>,
         policy: &A,
-    ) -> (Answer, Option<u64>)
+    ) -> Reply
         ensures answer { let setup = setup_of self.old.limits P C (A.allows_address policy.now)
             (A.allows_port policy.now) in
-            IsAnswered setup from.now (user_number user) (permitting (peers_left peers.old)) now
-            self.old.state self.new.state result.0 result.1 }
+            let d = message_bytes request.now in
+            IsAnswered setup from.now (user_number user) (permit_of d) now self.old.state
+            self.new.state (answer_of result) (opened_in result) }
         ensures limits { self.new.limits ≡ self.old.limits }
     {
-        match collected(peers) {
-            Some(all) => {
-                let request = TableRequest::CreatePermission(&all);
-                self.fulfil(now, from, user, request, policy)
+        match peers_of(request) {
+            Ok(peers) => {
+                let request = Request::CreatePermission(&peers);
+                self.table.request(now, from, user, request, policy)
             }
-            None => {
-                let request = TableRequest::Unfit(INSUFFICIENT_CAPACITY);
-                self.fulfil(now, from, user, request, policy)
-            }
+            Err(code) => self
+                .table
+                .request(now, from, user, Request::Unfit(code), policy),
         }
     }
 
@@ -314,109 +275,148 @@ impl<const P: usize, const C: usize> TurnServer<P, C> {
         now: u64,
         from: &FiveTuple,
         user: UserId,
-        request: &mut Request<'_>,
+        request: &Message<'_>,
+        sockets: &Sockets,
         policy: &A,
-    ) -> (Answer, Option<u64>)
+    ) -> Reply
         ensures answer { let setup = setup_of self.old.limits P C (A.allows_address policy.now)
             (A.allows_port policy.now) in
+            let d = message_bytes request.now in
             (relay : ℕ) × IsAnswered setup from.now (user_number user)
-            (request_with relay (wanted_by request.old)) now self.old.state self.new.state
-            result.0 result.1 }
+            (request_with relay (request_of from.now.client.ip sockets.now (method_of (type_field d)) d))
+            now self.old.state self.new.state (answer_of result) (opened_in result) }
         ensures limits { self.new.limits ≡ self.old.limits }
     {
-        match request {
-            Request::Allocate { id, lifetime, wish } => {
-                self.allocate(now, from, user, *id, *lifetime, *wish)
-            }
-            Request::Refresh { family, lifetime } => {
-                let request = TableRequest::Refresh(*family, *lifetime);
-                self.fulfil(now, from, user, request, policy)
-            }
-            Request::Permit(peers) => self.permit(now, from, user, peers, policy),
-            Request::Bind { channel, peer } => {
-                let request = TableRequest::ChannelBind(*channel, *peer);
-                self.fulfil(now, from, user, request, policy)
-            }
-            Request::Unfit(code) => {
-                self.fulfil(now, from, user, TableRequest::Unfit(*code), policy)
-            }
+        if request.has_method(ALLOCATE) {
+            return self.allocate(now, from, user, request, sockets);
         }
+        if request.has_method(CREATE_PERMISSION) {
+            return self.permit(now, from, user, request, policy);
+        }
+        self.table
+            .request(now, from, user, read_request(request), policy)
     }
 
     /// Returns whether what [`TurnServer::on_client_datagram`] does for a datagram depends on the key of
     /// its user: it is a request to the table, and none of the checks decides that come before the key is
     /// looked up (`stun_authentication::needs_key`). A server whose look-up takes time asks this first. It
     /// takes no memory, and of anything but such a request it reads no more than the header.
-    pub fn needs_key<N: Nonces>(&self, datagram: &[u8], policy: Policy, nonces: &N) -> bool
-        ensures { result ≡ asks_for_key (last_channel self.now.limits.old_channels) policy
-            (N.state_of nonces.now) datagram.now }
+    pub fn needs_key(&self, now: u64, client: Endpoint, datagram: &[u8], access: &Access) -> bool
+        ensures { result ≡ asks_for_key (last_channel self.now.limits.old_channels)
+            access.now.policy (nonces_at client now access.now) datagram.now }
     {
-        needs_key(datagram, self.table.limits().old_channels, policy, nonces)
+        let old_channels = self.table.limits().old_channels;
+        let nonces = access.nonces_of(now, socket_of(client));
+        needs_key(datagram, old_channels, access.policy, &nonces)
     }
 
-    /// Handles a client's datagram: judges it as [`judge`] does, updates the table, and returns what
-    /// the caller has to do. [`Action`] says how to write the response, which goes to where the datagram
-    /// came from.
+    /// Handles a client's datagram: reads it, updates the table, and returns what the program has to do.
+    /// A response is written at the start of `buffer`. Nothing else is written there.
     ///
-    /// `from` is the client, the address that its datagram came to, and the protocol between them, by
-    /// numbers of the caller's choice: 17 for UDP and 6 for TCP, say. What a stream is cut into counts as
-    /// datagrams (`stun_framing::MessageStream::carrying`). `site` says which sockets are ready. If
-    /// `took` of an [`Action::Answered`] is `Some(number)`, the one with the relayed address has this
-    /// number from then on, until [`TurnServer::poll`] returns it.
+    /// `from` is the client, the address that its datagram came to, and the protocol between them: 17
+    /// for UDP, and another number, such as 6 for TCP, for a stream. What a stream is cut into counts as
+    /// datagrams (`stun_framing::MessageStream::carrying`). `keys` looks a user's key up, and `policy`
+    /// says which peers clients may reach.
+    ///
+    /// The first of these that applies:
+    ///
+    /// - A first byte of 0x40 to 0x4F, or to 0x7F with `old_channels`, begins a ChannelData message. Its
+    ///   data goes to the peer that the channel is bound to. It is dropped if it is cut off or longer
+    ///   than its padding (RFC 8656, section 12.6).
+    /// - What doesn't parse as a message is dropped, and so is a response, an indication other than Send,
+    ///   and a request of another method than Binding, Allocate, Refresh, CreatePermission and
+    ///   ChannelBind (RFC 8489, section 6.3).
+    /// - The data of a Send indication goes to the peer that it names. It is dropped if it shows a type
+    ///   below 0x8000 that isn't one of [`COMPREHENDED`](crate::COMPREHENDED), if XOR-PEER-ADDRESS or DATA
+    ///   is missing, or if the address is malformed (RFC 8656, section 11.2).
+    /// - A Binding request gets the reply of a server without credentials (`stun_server::reply`).
+    /// - A request whose long-term credentials aren't accepted is refused with 400, 401 or 438, or
+    ///   discarded, as `stun_authentication::authenticate_long_term` says. The response isn't signed.
+    /// - A request that shows a type below 0x8000 that isn't one of `COMPREHENDED` is refused with 420,
+    ///   which lists these types. It is signed, and so are all that follow.
+    /// - An Allocate request from a client that has an allocation is refused with 437, unless it is the
+    ///   request that opened it, which is answered again.
+    /// - Any other Allocate request is refused with the first of these that applies (RFC 8656, section
+    ///   7.2): 403 if the client's own address is of Teredo or 6to4 (section 21.4); 400 if
+    ///   REQUESTED-TRANSPORT is missing or malformed, and 442 if it isn't UDP; 400 if LIFETIME,
+    ///   REQUESTED-ADDRESS-FAMILY, EVEN-PORT, RESERVATION-TOKEN or ADDITIONAL-ADDRESS-FAMILY has another
+    ///   length than its type, if RESERVATION-TOKEN is beside one of the last four others, or
+    ///   ADDITIONAL-ADDRESS-FAMILY beside REQUESTED-ADDRESS-FAMILY or an EVEN-PORT with R, or if
+    ///   ADDITIONAL-ADDRESS-FAMILY isn't IPv6; 440 if the server hasn't the family of
+    ///   REQUESTED-ADDRESS-FAMILY, or IPv4 if there is none; 486 if the user has as many allocations as
+    ///   one may have; and 508 if there is a RESERVATION-TOKEN or an EVEN-PORT with R, since the server
+    ///   reserves no ports, if no socket of the family is ready, with an even port if there is an
+    ///   EVEN-PORT, or if the table is full.
+    /// - Any other request of a client without an allocation is refused with 437, and one to another
+    ///   user's allocation with 441.
+    /// - It is refused with 400 if LIFETIME or REQUESTED-ADDRESS-FAMILY of a Refresh request hasn't four
+    ///   bytes; if a CreatePermission request has no XOR-PEER-ADDRESS, or a malformed one; and if
+    ///   CHANNEL-NUMBER or XOR-PEER-ADDRESS of a ChannelBind request is missing or malformed. A
+    ///   CreatePermission request that names more than [`PEERS`](crate::PEERS) peers is refused with 508.
+    /// - All others are answered as `TurnTable::request` says.
     ///
     /// # Errors
     ///
     /// Only if an allocation failed, while `keys` looked for the key ([`TurnServer::needs_key`]). Nothing
-    /// has changed then.
-    pub fn on_client_datagram<'d, N: Nonces, K: LongTermKeys, A: PeerPolicy>(
+    /// has changed then. Why a response can't be written, [`Response::written`](crate::Response) says:
+    /// `TooSmall` if the buffer is shorter, `OutOfMemory` if an allocation failed, and `IntegrityFailed` if
+    /// the key was made for another algorithm than the response has.
+    pub fn on_client_datagram<K: LongTermKeys, A: PeerPolicy>(
         &mut self,
         alloc: Global,
         now: u64,
         from: &FiveTuple,
-        datagram: &'d [u8],
+        datagram: &[u8],
         site: &Site<'_>,
-        nonces: &N,
         keys: &K,
         policy: &A,
-    ) -> Result<Action<'d>, AllocError>
+        buffer: &mut [u8],
+    ) -> Result<Action, AllocError>
         ensures acts { let setup = setup_of self.old.limits P C (A.allows_address policy.now)
             (A.allows_port policy.now) in
-            IfOk result (Acts (site_of from.now.client.ip site.now (N.state_of nonces.now)
-            (K.key_of keys.now)) setup from.now now datagram.now self.old.state self.new.state) }
+            IfOk result (Acts site.now.access.now site.now.sockets (K.key_of keys.now) setup from.now
+            now datagram.now
+            (record { state = self.old.state; slice = buffer.old })
+            (record { state = self.new.state; slice = buffer.new })) }
         ensures limits { self.new.limits ≡ self.old.limits }
-        ensures memory { asks_for_key (last_channel self.old.limits.old_channels) site.now.policy
-            (N.state_of nonces.now) datagram.now ≡ false → IsOk result }
-        ensures err { OnErr result (self.new ≡ self.old) }
+        ensures memory { asks_for_key (last_channel self.old.limits.old_channels)
+            site.now.access.now.policy (nonces_at from.now.client now site.now.access.now)
+            datagram.now ≡ false → IsOk result }
+        ensures err { OnErr result ((self.new ≡ self.old) × (buffer.new ≡ buffer.old)) }
     {
         let old_channels = self.table.limits().old_channels;
-        let judged = judge(
-            alloc,
-            from.client.ip,
-            datagram,
-            old_channels,
-            site,
-            nonces,
-            keys,
-        )?;
-        Ok(self.act(now, from, judged, policy))
+        let judged = judge(alloc, now, from.client, datagram, old_channels, site, keys)?;
+        Ok(self.act(alloc, now, from, judged, site, policy, buffer))
     }
 
-    /// Returns the client that a peer's datagram goes to, on a channel or in a Data indication, by the
-    /// number under which the socket is kept that it came to (RFC 8656, sections 11.3 and 12.7).
-    /// `turn_attrs::write_channel_head` and `write_data_head` write what comes before the data.
+    /// Handles a peer's datagram of `length` bytes, which came to the socket that is kept by the number
+    /// `relay`: returns the client that it goes to, on a channel or in a Data indication (RFC 8656,
+    /// sections 11.3 and 12.7). What comes before the data is written at the end of `before`, whose rest
+    /// stays: 48 bytes always have room for it.
     ///
-    /// A Data indication has a transaction ID that the caller draws.
+    /// A Data indication has the transaction ID `id`, which the program draws.
     ///
-    /// `None` if it is dropped: the socket belongs to no live allocation, or there is no permission
-    /// for the peer's IP address.
-    pub fn on_peer_datagram(&mut self, now: u64, relay: u64, peer: Endpoint) -> Option<ToClient>
-        ensures step { (address : Ip → Bool) (port : Endpoint → Bool) (bytes : List ℕ)
-            → step (setup_of self.old.limits P C address port) self.old.state now
-            (arrives relay peer bytes)
-            ≡ record { state = self.new.state; output = receiving result peer bytes } }
+    /// `None` if it is dropped: the socket belongs to no live allocation, there is no permission for the
+    /// peer's IP address, the message is longer than the transport to the client takes, 65507 bytes over
+    /// UDP to IPv4 and 65527 to IPv6, or `before` is too short.
+    pub fn on_peer_datagram(
+        &mut self,
+        now: u64,
+        relay: u64,
+        peer: Endpoint,
+        length: usize,
+        id: TransactionId,
+        before: &mut [u8],
+    ) -> Option<Delivery>
+        ensures receives { (address : Ip → Bool) (port : Endpoint → Bool)
+            → let setup = setup_of self.old.limits P C address port in
+            Receives setup now relay peer length id
+            (record { state = self.old.state; slice = before.old })
+            (record { state = self.new.state; slice = before.new }) result }
         ensures limits { self.new.limits ≡ self.old.limits }
     {
-        self.table.on_peer_data(now, relay, peer)
+        let to = self.table.on_peer_data(now, relay, peer)?;
+        deliver(&to, id, peer, length, before)
     }
 
     /// Closes allocations that have ended, as many as `ended` has room for, and writes the numbers of
@@ -433,25 +433,39 @@ impl<const P: usize, const C: usize> TurnServer<P, C> {
     }
 
     /// Does what a datagram that was judged asks for.
-    fn act<'d, A: PeerPolicy>(
+    fn act<A: PeerPolicy>(
         &mut self,
+        alloc: Global,
         now: u64,
         from: &FiveTuple,
-        judged: Judged<'d>,
+        judged: Judged<'_>,
+        site: &Site<'_>,
         policy: &A,
-    ) -> Action<'d>
-        ensures acts { let setup = setup_of self.old.limits P C (A.allows_address policy.now)
+        buffer: &mut [u8],
+    ) -> Action
+        ensures acts { (keys : Who → List ℕ → PasswordAlgorithmValue → Option UserKey) (d : List ℕ) (taken_for : TakenFor)
+            → let setup = setup_of self.old.limits P C (A.allows_address policy.now)
             (A.allows_port policy.now) in
-            (taken_for : TakenFor) → Tells taken_for judged.entry
-            → (relay : ℕ) × IsDone (acted setup from.now relay self.old.state now taken_for)
-            self.new.state result }
+            let client = from.now.client in
+            Tells (site_of site.now.access.now site.now.sockets keys client now) d taken_for judged.entry
+            → (relay : ℕ) × IsDone site.now.access.now from.now now d
+            (acted setup from.now relay self.old.state now taken_for)
+            (record { state = self.old.state; slice = buffer.old })
+            (record { state = self.new.state; slice = buffer.new }) result }
         ensures limits { self.new.limits ≡ self.old.limits }
     {
+        let access = site.access;
+        let client = from.client;
         match judged {
             Judged::Dropped => Action::Dropped,
-            Judged::Binding => Action::Binding,
-            Judged::Refused(refusal) => Action::Refused(refusal),
-            Judged::Unknown(accepted) => Action::Unknown(accepted),
+            Judged::Binding(request) => Action::Response(bind(&request.message, client, buffer)),
+            Judged::Refused(request, refusal) => {
+                let request = &request.message;
+                Action::Response(refuse(alloc, access, now, client, request, refusal, buffer))
+            }
+            Judged::Unknown(request, accepted) => {
+                Action::Response(refuse_types(alloc, &request.message, &accepted, buffer))
+            }
             Judged::Sent { peer, data } => {
                 relayed(self.table.on_send(now, from, peer, policy), data)
             }
@@ -459,16 +473,13 @@ impl<const P: usize, const C: usize> TurnServer<P, C> {
                 relayed(self.table.on_channel_data(now, from, channel, policy), data)
             }
             Judged::Asked {
+                request,
                 user,
-                mut request,
                 accepted,
             } => {
-                let (answer, took) = self.answer(now, from, user, &mut request, policy);
-                Action::Answered {
-                    answer,
-                    took,
-                    accepted,
-                }
+                let request = &request.message;
+                let reply = self.answer(now, from, user, request, &site.sockets, policy);
+                Action::Response(answer(alloc, access, client, request, reply, &accepted, buffer))
             }
         }
     }

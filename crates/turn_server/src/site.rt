@@ -1,16 +1,13 @@
-//! The settings of a server that a call takes.
+//! What a call of a server takes beside the datagram.
 
-use crate::Sockets;
-use stun_authentication::Policy;
+use crate::{Access, Sockets};
 
-/// The settings by which a datagram is judged: make one for each call, since `sockets` changes. Users
-/// and nonces are arguments of their own.
+/// How a server authenticates, and the sockets that it has ready: make one for each call, since
+/// `sockets` changes.
 #[derive(Clone, Copy, Debug)]
 pub struct Site<'s> {
-    /// Which requests are taken, and which integrity attributes count.
-    pub policy: Policy,
-    /// The realm of the long-term credentials (RFC 8489, section 9.2).
-    pub realm: &'s str,
+    /// How the server authenticates.
+    pub access: &'s Access,
     /// The sockets that are ready for Allocate requests.
     pub sockets: Sockets,
 }

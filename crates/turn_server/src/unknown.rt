@@ -71,51 +71,18 @@ fn write_listed<B: MessageWrite + Drop>(
     Ok(write)
 }
 
-/// Writes the response to a request that shows types below 0x8000 that aren't comprehended, as
-/// [`Judged::Unknown`](crate::Judged::Unknown) reports it: an ERROR-CODE 420 with the reason phrase of
-/// [`ErrorCode::default_reason_for_code`], and an UNKNOWN-ATTRIBUTES that lists them, in order and as
-/// often as shown (RFC 8489, section 6.3.1); then the integrity attribute by the user's key and
-/// [`Accepted::reply_algorithm`] (RFC 8489, section 9.2.4), and a FINGERPRINT if the request has one. It
-/// has no SOFTWARE, as the 400, 401 and 438 have none.
-///
-/// # Requires
-///
-/// `request` is a request, and the writer is as for `Message::builder`.
+/// Writes the response to a request that shows types below 0x8000 that aren't comprehended: an ERROR-CODE
+/// 420 with its reason phrase, and an UNKNOWN-ATTRIBUTES that lists them, in order and as often as shown
+/// (RFC 8489, section 6.3.1); then the integrity attribute by the user's key, and a FINGERPRINT if the
+/// request has one. It has no SOFTWARE, as the 400, 401 and 438 have none.
 ///
 /// # Errors
 ///
-/// `OutOfMemory` if an allocation failed: the list takes memory, the ERROR-CODE, and the writer. Else the
-/// first of these that applies:
-///
-/// - `TooLarge { expected: 32767, actual }` if more types would be listed, which no message shows;
-/// - `TooSmall { expected, actual }` if the message would be longer with an attribute than the
-///   writer takes: that length, and [`MessageWrite::max_size`]; and
-///   `TooLarge { expected: 65555, actual }` if it would be longer than a message may be. The first
-///   attribute that doesn't fit decides;
-/// - `IntegrityFailed`, before the integrity attribute, if the key was made for the other algorithm.
-///
-/// # Examples
-///
-/// ```
-/// use stun_authentication::{Accepted, Identity};
-/// use stun_types::attribute::ErrorCode;
-/// use stun_types::message::{IntegrityAlgorithm, IntegrityKey, Message, MessageWriteVec};
-/// use stun_types::prelude::*;
-/// use turn_server::write_unknown;
-///
-/// // An Allocate request with DONT-FRAGMENT, and its user as `judge` returns it.
-/// let request = Message::from_bytes(
-///     b"\x00\x03\x00\x0C\x21\x12\xA4\x42abcdefghijkl\x00\x19\x00\x04\x11\x00\x00\x00\x00\x1A\x00\x00",
-/// )?;
-/// let (algorithm, reply_algorithm) = (IntegrityAlgorithm::Sha1, IntegrityAlgorithm::Sha1);
-/// let (user, key) = (Identity::Name(b"user"), IntegrityKey::new(alloc, &[7; 16], None)?);
-/// let accepted = Accepted { user, key, algorithm, reply_algorithm };
-/// let reply = write_unknown(alloc, &request, &accepted, MessageWriteVec::new(alloc))?.finish();
-/// let reply = Message::from_bytes(&reply)?;
-/// assert_eq!(rt; reply.attribute::<ErrorCode>(alloc)?.code(), 420);
-/// assert_eq!(rt; reply.validate_integrity_with_key(&accepted.key), Ok(algorithm));
-/// ```
-pub fn write_unknown<B: MessageWrite + Drop>(
+/// `OutOfMemory` if an allocation failed. Else the first of these that applies: `TooLarge` if more types
+/// would be listed than an attribute has room for, which no message shows; `TooSmall` or `TooLarge` by
+/// the first attribute that doesn't fit; and `IntegrityFailed` if the key was made for the other
+/// algorithm.
+pub(crate) fn write_unknown<B: MessageWrite + Drop>(
     alloc: Global,
     request: &Message<'_>,
     accepted: &Accepted<'_>,

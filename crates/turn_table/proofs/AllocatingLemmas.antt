@@ -7,12 +7,13 @@ use Rattle.std.proofs.lemmas.Bool.{cond-true, cond-false, lt-ltb, or_left}
 use Rattle.turn_table.specs.Endpoints.{Endpoint, FiveTuple}
 use Rattle.turn_table.specs.Allocations.{seconds, Allocation, Setup, State, allocation_of}
 use Rattle.turn_table.specs.Events.{Offer, allocate, answers, allocated}
+use Rattle.turn_table.specs.Outputs.{answer_of}
 use Rattle.turn_table.specs.Rows.{has_quota, unmet_code, uses_relay, room_fault}
 use Rattle.turn_table.specs.Steps.{Step, allocated_for, at, refuses, allocates_first, allocates_new, allocates_again, serves}
 use Rattle.turn_table.specs.Slots.{Kept, fresh, Opens}
-use Rattle.turn_table.specs.Allocates.{offered, answer_to, IsFor, AnswersAgain, Allocates}
-use Rattle.turn_table.specs.declared.reply.AllocateReply.{AllocateReply}
-use Rattle.turn_table.specs.declared.reply.AllocateReply.TheVariants.{Opened, Refused}
+use Rattle.turn_table.specs.Allocates.{offered, IsFor, AnswersAgain, Allocates}
+use Rattle.turn_table.specs.declared.reply.Reply.{Reply}
+use Rattle.turn_table.specs.declared.reply.Reply.TheVariants.{Allocated, Refused}
 use Rattle.turn_table.proofs.SlotsLemmas.{not_true}
 use Rattle.turn_table.proofs.FilteredLemmas.{neither}
 
@@ -32,11 +33,11 @@ above_unused n (a ∷ all) le =
 -- ---- From the state at its moment
 
 -- what the machine does with this number
-abbrev Does : Setup → State → FiveTuple → (user id : ℕ) → Option ℕ → Result Endpoint ℕ → (relay : ℕ) → AllocateReply → State → Type 0
+abbrev Does : Setup → State → FiveTuple → (user id : ℕ) → Option ℕ → Result Endpoint ℕ → (relay : ℕ) → Reply → State → Type 0
 Does setup s tuple user id lifetime wish relay reply new =
-    serves setup s.clock tuple user (allocate id lifetime (offered relay wish)) s ≡ (let t : Step = record { state = new; output = answers tuple (answer_to reply) } in t)
+    serves setup s.clock tuple user (allocate id lifetime (offered relay wish)) s ≡ (let t : Step = record { state = new; output = answers tuple (answer_of reply) } in t)
 
-by_moment : (setup : Setup) (old : State) (now : ℕ) (tuple : FiveTuple) (user id : ℕ) (lifetime : Option ℕ) (wish : Result Endpoint ℕ) (reply : AllocateReply) (s new : State) → s ≡ at now old → (relay : ℕ) → list_any (uses_relay relay) s.allocations ≡ false
+by_moment : (setup : Setup) (old : State) (now : ℕ) (tuple : FiveTuple) (user id : ℕ) (lifetime : Option ℕ) (wish : Result Endpoint ℕ) (reply : Reply) (s new : State) → s ≡ at now old → (relay : ℕ) → list_any (uses_relay relay) s.allocations ≡ false
     → IsFor (allocation_of s.clock tuple s) relay reply → Does setup s tuple user id lifetime wish relay reply new → Allocates setup old now tuple user id lifetime wish reply new
 by_moment setup old now tuple user id lifetime wish reply s new e relay unused kind does = record {
   relay = relay;
@@ -46,7 +47,7 @@ by_moment setup old now tuple user id lifetime wish reply s new e relay unused k
 }
 
 -- of a client that has an allocation
-pub again_is : (setup : Setup) (old : State) (now : ℕ) (tuple : FiveTuple) (user id : ℕ) (lifetime : Option ℕ) (wish : Result Endpoint ℕ) (reply : AllocateReply) (s : State) → s ≡ at now old → (a : Allocation) → allocation_of s.clock tuple s ≡ Some a
+pub again_is : (setup : Setup) (old : State) (now : ℕ) (tuple : FiveTuple) (user id : ℕ) (lifetime : Option ℕ) (wish : Result Endpoint ℕ) (reply : Reply) (s : State) → s ≡ at now old → (a : Allocation) → allocation_of s.clock tuple s ≡ Some a
     → AnswersAgain s.clock user id a reply → Allocates setup old now tuple user id lifetime wish reply s
 again_is setup old now tuple user id lifetime wish reply s e a known again =
     let relay = above s.allocations in
@@ -103,12 +104,12 @@ full_is setup old now tuple user id lifetime wish address s e none is within ful
 
 pub opened_is : (setup : Setup) (old : State) (now : ℕ) (tuple : FiveTuple) (user id : ℕ) (lifetime : Option ℕ) (wish : Result Endpoint ℕ) (address : Endpoint) (kept new : Kept) (granted relay : ℕ) → kept.state ≡ at now old
     → allocation_of kept.state.clock tuple kept.state ≡ None → wish ≡ Ok address → has_quota setup kept.state kept.state.clock user ≡ true → kept.most ≡ setup.most_allocations → granted ≡ allocated_for lifetime setup.greatest_lifetime
-    → Opens (fresh tuple user id relay address (kept.state.clock + seconds granted)) kept new → Allocates setup old now tuple user id lifetime wish (Opened relay address granted) new.state
+    → Opens (fresh tuple user id relay address (kept.state.clock + seconds granted)) kept new → Allocates setup old now tuple user id lifetime wish (Allocated address granted (Some relay)) new.state
 opened_is setup old now tuple user id lifetime wish address kept new granted relay e none is within most its opens =
     let s = kept.state in
     let offer : Offer = record { relay = relay; address = address } in
     let room : length s.allocations < setup.most_allocations = subst (λ (n : ℕ). length s.allocations < n) most opens.room in
-    by_moment setup old now tuple user id lifetime wish (Opened relay address granted) s new.state e relay opens.unused (none, refl)
+    by_moment setup old now tuple user id lifetime wish (Allocated address granted (Some relay)) s new.state e relay opens.unused (none, refl)
     (ap (λ (o : Option Allocation). option_map_or (allocates_again s.clock tuple user id s) o (allocates_new setup s.clock tuple user id lifetime (offered relay wish) s)) none
     ∙ (ap (λ (w : Result Endpoint ℕ). allocates_new setup s.clock tuple user id lifetime (offered relay w) s) is
     ∙ (ap (λ (f : Option ℕ). option_map_or (λ code. refuses tuple code s) f (allocates_first setup s.clock tuple user id lifetime s offer))

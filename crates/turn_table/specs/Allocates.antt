@@ -3,41 +3,37 @@ use Rattle.std.specs.Prelude.{◌≡◌, ℕ, false, Option, None, Some, IsSome,
 use Rattle.std.specs.List.{list_any}
 use Rattle.turn_table.specs.Endpoints.{Endpoint, FiveTuple}
 use Rattle.turn_table.specs.Allocations.{Allocation, Setup, State, allocation_of}
-use Rattle.turn_table.specs.Events.{Offer, allocate, asks, Answer, allocated, refused, answers}
+use Rattle.turn_table.specs.Events.{Offer, allocate, asks, answers}
+use Rattle.turn_table.specs.Outputs.{answer_of}
 use Rattle.turn_table.specs.Rows.{uses_relay}
 use Rattle.turn_table.specs.Steps.{at, allocates_again, step}
-use Rattle.turn_table.specs.declared.reply.AllocateReply.{AllocateReply}
-use Rattle.turn_table.specs.declared.reply.AllocateReply.TheVariants.{Opened, Again, Refused}
+use Rattle.turn_table.specs.declared.reply.Reply.{Reply}
+use Rattle.turn_table.specs.declared.reply.Reply.TheVariants.{Allocated}
 
 -- the socket that the caller has ready, by the number that the table gives it
 abbrev pub offered : (relay : ℕ) → Result Endpoint ℕ → Result Offer ℕ
 offered relay (Ok address) = Ok (record { relay = relay; address = address })
 offered relay (Err code) = Err code
 
-abbrev pub answer_to : AllocateReply → Answer
-answer_to (Opened relay relayed lifetime) = allocated relayed lifetime
-answer_to (Again relayed lifetime) = allocated relayed lifetime
-answer_to (Refused code) = refused code
-
 -- an allocation is opened of a client that has none, with this socket, and answered again of one
 -- that has
-abbrev pub IsFor : Option Allocation → (relay : ℕ) → AllocateReply → Type 0
-IsFor known relay (Opened number relayed lifetime) = (known ≡ None) × (number ≡ relay)
-IsFor known relay (Again relayed lifetime) = IsSome known
-IsFor known relay (Refused code) = Unit {0}
+abbrev pub IsFor : Option Allocation → (relay : ℕ) → Reply → Type 0
+IsFor known relay (Allocated relayed lifetime (Some number)) = (known ≡ None) × (number ≡ relay)
+IsFor known relay (Allocated relayed lifetime None) = IsSome known
+IsFor known relay _ = Unit {0}
 
 -- a client that has this allocation is answered
-pub record AnswersAgain (now user id : ℕ) (a : Allocation) (reply : AllocateReply) : Type 0 where
+pub record AnswersAgain (now user id : ℕ) (a : Allocation) (reply : Reply) : Type 0 where
   pub known : (relay : ℕ) → IsFor (Some a) relay reply
   pub step : (tuple : FiveTuple) (state : State) → allocates_again now tuple user id state a
-      ≡ record { state = state; output = answers tuple (answer_to reply) }
+      ≡ record { state = state; output = answers tuple (answer_of reply) }
 
 -- the step of the machine, if the socket that is ready gets a number that no other has
 pub record Allocates (setup : Setup) (old : State) (now : ℕ) (tuple : FiveTuple) (user id : ℕ)
-    (lifetime : Option ℕ) (wish : Result Endpoint ℕ) (reply : AllocateReply) (new : State) : Type 0
+    (lifetime : Option ℕ) (wish : Result Endpoint ℕ) (reply : Reply) (new : State) : Type 0
   where
     pub relay : ℕ
     pub unused : list_any (uses_relay relay) old.allocations ≡ false
     pub kind : IsFor (allocation_of (at now old).clock tuple old) relay reply
     pub step : step setup old now (asks tuple user (allocate id lifetime (offered relay wish)))
-        ≡ record { state = new; output = answers tuple (answer_to reply) }
+        ≡ record { state = new; output = answers tuple (answer_of reply) }

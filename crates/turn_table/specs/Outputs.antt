@@ -3,12 +3,12 @@ use Rattle.std.specs.Prelude.{ℕ, Bool, not, ◌&&◌, List, Option, None, Some
 use Rattle.turn_table.specs.Endpoints.{Ip, Endpoint}
 use Rattle.turn_table.specs.Allocations.{Setup}
 use Rattle.turn_table.specs.Tunnels.{is_tunnelled}
-use Rattle.turn_table.specs.Events.{Answer, refreshed, done, refused, Output, to_peer, to_client, to_client_on, nothing}
+use Rattle.turn_table.specs.Events.{Answer, allocated, refreshed, done, refused, Output, to_peer, to_client, to_client_on, nothing}
 use Rattle.turn_table.specs.declared.limits.Limits.{Limits}
 use Rattle.turn_table.specs.declared.reply.ToPeer.{ToPeer}
 use Rattle.turn_table.specs.declared.reply.ToClient.{ToClient}
 use Rattle.turn_table.specs.declared.reply.Reply.{Reply}
-use Rattle.turn_table.specs.declared.reply.Reply.TheVariants.{Refreshed, Done, Refused}
+use Rattle.turn_table.specs.declared.reply.Reply.TheVariants.{Allocated, Refreshed, Done, Refused}
 
 -- whether an IP address may be a peer's: the policy allows it, and it is none of Teredo or 6to4, which a
 -- server must not accept (section 21.4)
@@ -43,8 +43,14 @@ abbrev pub receiving : Option ToClient → Endpoint → List ℕ → Output
 receiving None peer bytes = nothing
 receiving (Some to) peer bytes = receiving_on to to.channel peer bytes
 
--- an answer to a request that isn't Allocate
+-- the answer to a request
 abbrev pub answer_of : Reply → Answer
+answer_of (Allocated relayed lifetime opened) = allocated relayed lifetime
 answer_of (Refreshed lifetime) = refreshed lifetime
 answer_of Done = done
 answer_of (Refused code) = refused code
+
+-- the number of the socket of an allocation that it opened
+abbrev pub opened_in : Reply → Option ℕ
+opened_in (Allocated relayed lifetime opened) = opened
+opened_in _ = None

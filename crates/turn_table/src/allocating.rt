@@ -7,7 +7,7 @@ ghost use Rattle.turn_table.specs.Rows.{unmet_code};
 ghost use Rattle.turn_table.specs.Steps.{allocated_for};
 ghost use Rattle.turn_table.specs.Allocates.{AnswersAgain};
 
-use crate::reply::AllocateReply;
+use crate::reply::Reply;
 use crate::serving::SECOND;
 use crate::slot::Slot;
 use crate::user::UserId;
@@ -32,17 +32,18 @@ pub(crate) fn unmet_code(is_within: bool, code: u16) -> u16
 impl<const P: usize, const C: usize> Slot<P, C> {
     /// The answer to an Allocate request of the allocation's client: the request that opened it is
     /// answered again, with the time that is left.
-    pub(crate) fn again(&self, now: u128, user: UserId, id: u128) -> AllocateReply
+    pub(crate) fn again(&self, now: u128, user: UserId, id: u128) -> Reply
         requires { self.now.until ≤ now + seconds 4_294_967_295 }
         ensures { AnswersAgain now (user_number user) id self.now result }
     {
         if self.user.is(user) && self.opened_by == id {
-            AllocateReply::Again {
+            Reply::Allocated {
                 relayed: self.relayed,
                 lifetime: (self.until.saturating_sub(now) / SECOND) as u32,
+                opened: None,
             }
         } else {
-            AllocateReply::Refused(437)
+            Reply::Refused(437)
         }
     }
 }

@@ -26,7 +26,7 @@ pub use laws::{
     what_is_permitted_works,
 };
 pub use limits::{Limits, PeerPolicy};
-pub use reply::{AllocateReply, Reply, Request, ToClient, ToPeer};
+pub use reply::{Reply, Request, ToClient, ToPeer};
 pub use table::TurnTable;
 pub use tunnels::is_tunnelled;
 pub use user::UserId;

@@ -25,6 +25,29 @@ pub struct Limits {
     pub old_channels: bool,
 }
 
+/// 4,096 allocations, at most 64 of one user, for at most an hour, and RFC 8656's rules.
+impl Default for Limits {
+    ghost use Rattle.std.specs.Prelude.{◌≡◌, false};
+
+    ghost is_default = { λ limits. limits ≡ record {
+      allocations = 4096;
+      of_user = 64;
+      greatest_lifetime = 3600;
+      channel_permits = false;
+      old_channels = false;
+    } };
+
+    fn default() -> Self {
+        Limits {
+            allocations: 4096,
+            of_user: 64,
+            greatest_lifetime: 3600,
+            channel_permits: false,
+            old_channels: false,
+        }
+    }
+}
+
 /// Decides which peers clients may reach.
 pub trait PeerPolicy {
     ghost allows_address: { Self → Ip → Bool };

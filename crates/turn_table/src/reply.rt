@@ -16,35 +16,23 @@ pub enum Request<'a> {
     Unfit(u16),
 }
 
-/// The answer to a request other than Allocate.
+/// The answer to a user's request.
 #[derive(Clone, Copy, Debug, PartialEq, Eq)]
 pub enum Reply {
+    /// A success response to Allocate, with the relayed address and LIFETIME in seconds.
+    Allocated {
+        relayed: Endpoint,
+        lifetime: u32,
+        /// The number by which the socket that was ready is the allocation's from now on. `None` if
+        /// the socket isn't used: the request is the one that opened the allocation, and the lifetime is
+        /// what is left of it.
+        opened: Option<u64>,
+    },
     /// A success response to Refresh, with this LIFETIME in seconds.
     Refreshed(u32),
-    /// A success response.
+    /// A success response to CreatePermission or ChannelBind.
     Done,
-    /// An error response with this code.
-    Refused(u16),
-}
-
-/// The answer to an Allocate request.
-#[derive(Clone, Copy, Debug, PartialEq, Eq)]
-pub enum AllocateReply {
-    /// A success response, with the relayed address and LIFETIME in seconds: the socket that was
-    /// ready is the allocation's now, by the number `relay`.
-    Opened {
-        relay: u64,
-        relayed: Endpoint,
-        lifetime: u32,
-    },
-    /// A success response once more, with the relayed address and the LIFETIME that is left, in
-    /// seconds: the request is the one that opened the allocation. The socket that was ready isn't
-    /// used.
-    Again {
-        relayed: Endpoint,
-        lifetime: u32,
-    },
-    /// An error response with this code. The socket that was ready isn't used.
+    /// An error response with this code. A socket that was ready isn't used.
     Refused(u16),
 }
 

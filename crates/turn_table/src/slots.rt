@@ -16,7 +16,7 @@ use crate::hashing::Seeded;
 use crate::index::{make_room, name};
 use crate::limits::{Limits, PeerPolicy};
 use crate::places::{client_at, count_users, ended_at, free_slots, relay_at, serve_in};
-use crate::reply::{AllocateReply, Reply, Request};
+use crate::reply::{Reply, Request};
 use crate::serving::SECOND;
 use crate::slot::Slot;
 use crate::user::UserId;
@@ -149,7 +149,7 @@ impl<const P: usize, const C: usize> Slots<P, C> {
     }
 
     /// The answer to an Allocate request of a client that has a live allocation.
-    pub(crate) fn again(&self, tuple: &FiveTuple, user: UserId, id: u128) -> Option<AllocateReply>
+    pub(crate) fn again(&self, tuple: &FiveTuple, user: UserId, id: u128) -> Option<Reply>
         ensures { let known = allocation_of self.now.state.clock tuple.now self.now.state in
             MatchOption result (known ≡ None)
             (λ reply. (a : Allocation) × (known ≡ Some a)

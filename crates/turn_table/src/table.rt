@@ -17,7 +17,7 @@ use crate::allocating::{allocated_for, unmet_code};
 use crate::endpoints::{Endpoint, FiveTuple};
 use crate::limits::{Limits, PeerPolicy};
 use crate::polling::close_ended;
-use crate::reply::{AllocateReply, Reply, Request, ToClient, ToPeer};
+use crate::reply::{Reply, Request, ToClient, ToPeer};
 use crate::slots::Slots;
 use crate::user::UserId;
 use std::alloc::{AllocError, Global};
@@ -29,7 +29,7 @@ use std::marker::Model;
 /// steps back counts as stopped. No call but [`TurnTable::new`] allocates.
 ///
 /// ```
-/// use turn_table::{AllocateReply, Endpoint, FiveTuple, Limits, TurnTable, UserId};
+/// use turn_table::{Endpoint, FiveTuple, Limits, Reply, TurnTable, UserId};
 ///
 /// let limits = Limits {
 ///     allocations: 100,
@@ -43,7 +43,7 @@ use std::marker::Model;
 /// let user = UserId([1; 32]);
 /// let relayed = Endpoint::default();
 /// let opened = table.allocate(0, &tuple, user, 7, None, Ok(relayed));
-/// assert!(rt; matches!(opened, AllocateReply::Opened { lifetime: 600, .. }));
+/// assert!(rt; matches!(opened, Reply::Allocated { lifetime: 600, opened: Some(_), .. }));
 /// let mut ended = [0; 8];
 /// assert_eq!(rt; table.poll(600_000_000_000, &mut ended), 1);
 /// ```
@@ -120,7 +120,7 @@ impl<const P: usize, const C: usize> TurnTable<P, C> {
     /// A request that is refused changes nothing.
     ///
     /// ```
-    /// use turn_table::{AllocateReply, Endpoint, FiveTuple, Limits, TurnTable, UserId};
+    /// use turn_table::{Endpoint, FiveTuple, Limits, Reply, TurnTable, UserId};
     ///
     /// let limits = Limits {
     ///     allocations: 100,
@@ -134,10 +134,11 @@ impl<const P: usize, const C: usize> TurnTable<P, C> {
     /// let user = UserId([1; 32]);
     /// let relayed = Endpoint::default();
     /// let opened = table.allocate(0, &tuple, user, 7, None, Ok(relayed));
-    /// assert!(rt; matches!(opened, AllocateReply::Opened { lifetime: 600, .. }));
-    /// let again = AllocateReply::Again {
+    /// assert!(rt; matches!(opened, Reply::Allocated { lifetime: 600, opened: Some(_), .. }));
+    /// let again = Reply::Allocated {
     ///     relayed,
     ///     lifetime: 590,
+    ///     opened: None,
     /// };
     /// assert_eq!(rt; table.allocate(10_000_000_000, &tuple, user, 7, None, Err(508)), again);
     /// ```
@@ -149,7 +150,7 @@ impl<const P: usize, const C: usize> TurnTable<P, C> {
         id: u128,
         lifetime: Option<u32>,
         wish: Result<Endpoint, u16>,
-    ) -> AllocateReply
+    ) -> Reply
         ensures step { (address : Ip → Bool) (port : Endpoint → Bool)
             → Allocates (setup_of self.old.limits P C address port) self.old.state now tuple.now
             (user_number user) id lifetime wish result self.new.state }
@@ -162,19 +163,19 @@ impl<const P: usize, const C: usize> TurnTable<P, C> {
         let is_within = self.has_quota(user);
         let relayed = match wish {
             Ok(relayed) => relayed,
-            Err(code) => return AllocateReply::Refused(unmet_code(is_within, code)),
+            Err(code) => return Reply::Refused(unmet_code(is_within, code)),
         };
         if !is_within {
-            return AllocateReply::Refused(486);
+            return Reply::Refused(486);
         }
         let lifetime = allocated_for(lifetime, self.limits.greatest_lifetime);
         let Some(relay) = self.slots.open(*tuple, user, id, relayed, lifetime) else {
-            return AllocateReply::Refused(508);
+            return Reply::Refused(508);
         };
-        AllocateReply::Opened {
-            relay,
+        Reply::Allocated {
             relayed,
             lifetime,
+            opened: Some(relay),
         }
     }
 
@@ -301,7 +302,7 @@ impl<const P: usize, const C: usize> TurnTable<P, C> {
     /// for the peer's IP address.
     ///
     /// ```
-    /// use turn_table::{AllocateReply, Endpoint, FiveTuple, Limits, TurnTable, UserId};
+    /// use turn_table::{Endpoint, FiveTuple, Limits, Reply, TurnTable, UserId};
     ///
     /// let limits = Limits {
     ///     allocations: 100,
@@ -314,7 +315,7 @@ impl<const P: usize, const C: usize> TurnTable<P, C> {
     /// let tuple = FiveTuple::default();
     /// let relayed = Endpoint::default();
     /// let opened = table.allocate(0, &tuple, UserId([1; 32]), 7, None, Ok(relayed));
-    /// if let AllocateReply::Opened { relay, .. } = opened {
+    /// if let Reply::Allocated { opened: Some(relay), .. } = opened {
     ///     assert_eq!(rt; table.on_peer_data(0, relay, Endpoint::default()), None);
     /// }
     /// ```
@@ -336,7 +337,7 @@ impl<const P: usize, const C: usize> TurnTable<P, C> {
     /// allocation that has ended keeps its slot until a poll closes it.
     ///
     /// ```
-    /// use turn_table::{AllocateReply, Endpoint, FiveTuple, Limits, TurnTable, UserId};
+    /// use turn_table::{Endpoint, FiveTuple, Limits, Reply, TurnTable, UserId};
     ///
     /// let limits = Limits {
     ///     allocations: 100,
@@ -349,7 +350,7 @@ impl<const P: usize, const C: usize> TurnTable<P, C> {
     /// let tuple = FiveTuple::default();
     /// let relayed = Endpoint::default();
     /// let opened = table.allocate(0, &tuple, UserId([1; 32]), 7, None, Ok(relayed));
-    /// assert!(rt; matches!(opened, AllocateReply::Opened { .. }));
+    /// assert!(rt; matches!(opened, Reply::Allocated { opened: Some(_), .. }));
     /// let mut ended = [0; 8];
     /// assert_eq!(rt; table.poll(599_999_999_999, &mut ended), 0);
     /// assert_eq!(rt; table.poll(600_000_000_000, &mut ended), 1);

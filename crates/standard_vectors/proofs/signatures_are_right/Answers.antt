@@ -24,6 +24,14 @@ pub returns-clause-other_key : goal.returns-clause-other_key
 unfolding validating
 returns-clause-other_key c = refl
 
+pub returns-clause-given : goal.returns-clause-given
+unfolding validating
+returns-clause-given c = refl
+
+pub returns-clause-other_given : goal.returns-clause-other_given
+unfolding validating
+returns-clause-other_given c = refl
+
 pub returns-clause-origin : goal.returns-clause-origin
 unfolding validating
 returns-clause-origin c = record {

@@ -6,20 +6,14 @@ ghost use Rattle.std.specs.Prelude.{◌≡◌, ℕ, ◌≤◌, ◌++◌, length,
 ghost use Rattle.std.specs.List.{concat};
 ghost use Rattle.stun_grammar.specs.Numbers.{be16};
 ghost use Rattle.stun_grammar.specs.Fingerprints.{ending_length_field, message_before, fingerprint_value};
-ghost use Rattle.stun_grammar.specs.Hmac.{hmac};
-ghost use Rattle.stun_grammar.specs.Verdicts.{covered_bytes};
-ghost use Rattle.stun_keys.specs.Keys.{key_bytes};
 
-use stun_base::pad_attribute_len;
-use stun_grammar::IntegrityAlgorithm;
 use stun_keys::digest::crc32;
-use stun_keys::keys::IntegrityKey;
 use stun_values::masked;
 
 /// The first four bytes of a message with another length field: that of one that ends with an
 /// attribute of `size` bytes at `offset`, which is the low sixteen bits of the number of bytes that
 /// follow the header, big-endian.
-fn beginning(bytes: &[u8], offset: usize, size: usize) -> [u8; 4]
+pub fn beginning(bytes: &[u8], offset: usize, size: usize) -> [u8; 4]
     requires header { 20 ≤ offset }
     requires within { offset ≤ length bytes.now }
     requires short { size ≤ 65540 }
@@ -39,32 +33,6 @@ fn pieces_before<'a>(bytes: &'a [u8], offset: usize, beginning: &'a [u8; 4]) -> 
         → concat (map (λ piece. piece.now) result) ≡ message_before bytes.now offset size }
 {
     [beginning, &bytes[4..offset]]
-}
-
-/// The HMAC-SHA1 of the bytes that a MESSAGE-INTEGRITY at `offset` covers whose value has `count`
-/// bytes.
-pub fn hmac_sha1_at(key: &IntegrityKey, bytes: &[u8], offset: usize, count: usize) -> [u8; 20]
-    requires header { 20 ≤ offset }
-    requires within { offset ≤ length bytes.now }
-    requires short { count ≤ 65535 }
-    ensures { result ≡ hmac IntegrityAlgorithm.Sha1 (key_bytes key.now)
-        (covered_bytes bytes.now offset count) }
-{
-    let beginning = beginning(bytes, offset, 4 + pad_attribute_len(count));
-    key.hmac_sha1(&pieces_before(bytes, offset, &beginning))
-}
-
-/// The HMAC-SHA256 of the bytes that a MESSAGE-INTEGRITY-SHA256 at `offset` covers whose value has
-/// `count` bytes.
-pub fn hmac_sha256_at(key: &IntegrityKey, bytes: &[u8], offset: usize, count: usize) -> [u8; 32]
-    requires header { 20 ≤ offset }
-    requires within { offset ≤ length bytes.now }
-    requires short { count ≤ 65535 }
-    ensures { result ≡ hmac IntegrityAlgorithm.Sha256 (key_bytes key.now)
-        (covered_bytes bytes.now offset count) }
-{
-    let beginning = beginning(bytes, offset, 4 + pad_attribute_len(count));
-    key.hmac_sha256(&pieces_before(bytes, offset, &beginning))
 }
 
 /// The value of a FINGERPRINT at `offset`: the CRC-32 of the message before it, with a length field

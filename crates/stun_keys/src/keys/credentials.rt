@@ -1,5 +1,5 @@
-ghost use Rattle.std.specs.Prelude.{◌≡◌, IfOk, IfErr};
-ghost use Rattle.stun_keys.specs.Keys.{SameCredentials, IsKey, credentials_key, credentials_algorithm};
+ghost use Rattle.std.specs.Prelude.{◌≡◌, true, IfOk, IfErr};
+ghost use Rattle.stun_keys.specs.Keys.{SameCredentials, IsKey, is_prepared, credentials_key, credentials_algorithm};
 
 use crate::keys::{IntegrityKey, LongTermKeyCredentials, ShortTermCredentials, key_of_texts};
 use std::alloc::{AllocError, Global};
@@ -79,8 +79,7 @@ impl MessageIntegrityCredentials {
     /// Makes the key of the credentials for an algorithm, in memory from `alloc`, as
     /// [`ShortTermCredentials::make_key`] and [`LongTermKeyCredentials::make_key`] do.
     ///
-    /// One allocation. A key that makes more than two HMACs is faster after
-    /// [`IntegrityKey::prepare`].
+    /// Two allocations: the key is prepared, as [`IntegrityKey::new`] makes one.
     ///
     /// # Errors
     ///
@@ -108,9 +107,12 @@ impl MessageIntegrityCredentials {
     ) -> Result<IntegrityKey, StunWriteError>
         ensures ok { IfOk result (IsKey (credentials_algorithm self.now algorithm)
             (credentials_key self.now algorithm)) }
+        ensures prepared { IfOk result (λ key. is_prepared key ≡ true) }
         ensures err { IfErr result (λ e. e ≡ StunWriteError.OutOfMemory) }
     {
-        Ok(key_of_credentials(alloc, self, algorithm)?)
+        let mut key = key_of_credentials(alloc, self, algorithm)?;
+        key.prepare_in(alloc)?;
+        Ok(key)
     }
 }
 

@@ -18,10 +18,12 @@ const READY: usize = 256;
 ///
 /// After its bytes, in the same allocation, a key keeps the blocks with which its HMACs begin, 256
 /// bytes: for each digest the key's block with the inner pad, and with the outer one (RFC 2104,
-/// section 2). So a key that is longer than a block is digested once, when it is made. No call
-/// through `&self` allocates or writes, and threads may share a key (it is `Sync`).
+/// section 2). So a key that is longer than a block is digested once, when it is made. Computing an
+/// HMAC neither allocates nor writes to the key, so threads may share it (it is `Sync`).
 ///
-/// A key that makes many HMACs is faster once [`IntegrityKey::prepare`] has been called.
+/// In a second allocation it keeps hashers that have taken in these blocks, so that an HMAC compresses
+/// two blocks fewer, which is a third of the time of a short one: [`IntegrityKey::new`], each
+/// `make_key` and [`IntegrityKey::clone`] make them.
 ///
 /// All memory that a key owns is overwritten before it is freed, and `{:?}` prints none of it. What
 /// a call copies to the stack isn't overwritten.
@@ -92,9 +94,9 @@ impl IntegrityKey {
         Ok(())
     }
 
-    /// A key with the bytes `bytes`, made for an algorithm or with none. The bytes are copied, and
-    /// the blocks of its HMACs are made, in one allocation by `alloc`. For a key that makes more
-    /// than two HMACs, [`IntegrityKey::prepare`] pays.
+    /// A key with the bytes `bytes`, made for an algorithm or with none. The bytes are copied, the
+    /// blocks of its HMACs are made, and it is prepared for the algorithms that it serves, in two
+    /// allocations by `alloc`.
     ///
     /// A server that keeps no passwords makes the keys of long-term credentials by it: for `Sha1`
     /// of the MD5 of `username:realm:password`, 16 bytes, and for `Sha256` of its SHA-256, 32 bytes
@@ -121,16 +123,18 @@ impl IntegrityKey {
         algorithm: Option<IntegrityAlgorithm>,
     ) -> Result<Self, StunWriteError>
         ensures ok { IfOk result (IsKey algorithm bytes.now) }
+        ensures prepared { IfOk result (λ key. is_prepared key ≡ true) }
         ensures err { IfErr result (λ e. e ≡ StunWriteError.OutOfMemory) }
     {
-        Ok(Self::of_bytes(alloc, bytes, algorithm)?)
+        let mut key = Self::of_bytes(alloc, bytes, algorithm)?;
+        key.prepare_in(alloc)?;
+        Ok(key)
     }
 
-    /// Prepares the key for many HMACs by the algorithms that it serves, in one allocation by
-    /// `alloc`: it keeps hashers that have taken in its blocks, so that from then on an HMAC
-    /// compresses two blocks fewer, which is a third of the time of a short one. Preparing itself
-    /// compresses two blocks for each algorithm, so it pays for a key that makes more than two HMACs.
-    /// A key that is prepared already allocates nothing.
+    /// Prepares the key for the algorithms that it serves, in one allocation by `alloc`. A key that was
+    /// made or cloned is prepared already, and nothing happens. After [`IntegrityKey::made_for`] or
+    /// [`IntegrityKey::for_both`] it may serve an algorithm that it isn't prepared for: prepare it
+    /// then.
     ///
     /// The key stays the same, and so does every HMAC.
     ///
@@ -141,12 +145,13 @@ impl IntegrityKey {
     /// # Examples
     ///
     /// ```
-    /// use stun_types::message::IntegrityKey;
+    /// use stun_types::message::{IntegrityAlgorithm, IntegrityKey};
     ///
-    /// let mut key = IntegrityKey::new(alloc, b"secret", None)?;
-    /// let hmac = key.hmac_sha1(&[b"some bytes".as_slice()]);
+    /// let key = IntegrityKey::new(alloc, b"secret", Some(IntegrityAlgorithm::Sha1))?;
+    /// let mut key = key.for_both();
+    /// let hmac = key.hmac_sha256(&[b"some bytes".as_slice()]);
     /// key.prepare(alloc)?;
-    /// assert_eq!(rt; key.hmac_sha1(&[b"some bytes".as_slice()]), hmac);
+    /// assert_eq!(rt; key.hmac_sha256(&[b"some bytes".as_slice()]), hmac);
     /// ```
     pub fn prepare(&mut self, alloc: Global) -> Result<(), StunWriteError>
         ensures key { IsKey (key_algorithm self.old) (key_bytes self.old) self.new }
@@ -169,13 +174,14 @@ impl IntegrityKey {
         }
     }
 
-    /// Copies the key into memory from `alloc`. Its bytes are copied; the copy isn't prepared.
+    /// Copies the key, in two allocations by `alloc`. The copy is prepared.
     ///
     /// # Errors
     ///
     /// `OutOfMemory` alone.
     pub fn clone(&self, alloc: Global) -> Result<Self, StunWriteError>
         ensures same { IfOk result (IsKey (key_algorithm self.now) (key_bytes self.now)) }
+        ensures prepared { IfOk result (λ key. is_prepared key ≡ true) }
         ensures err { IfErr result (λ e. e ≡ StunWriteError.OutOfMemory) }
     {
         IntegrityKey::new(alloc, self.as_bytes(), self.algorithm)

@@ -1,6 +1,6 @@
-ghost use Rattle.std.specs.Prelude.{◌≡◌, Some, IfOk, IfErr};
+ghost use Rattle.std.specs.Prelude.{◌≡◌, true, Some, IfOk, IfErr};
 ghost use Rattle.std.specs.String.{string_bytes};
-ghost use Rattle.stun_keys.specs.Keys.{long_term_username, long_term_password, long_term_realm, SameLongTerm, IsKey, long_term_key};
+ghost use Rattle.stun_keys.specs.Keys.{long_term_username, long_term_password, long_term_realm, SameLongTerm, IsKey, is_prepared, long_term_key};
 
 use crate::keys::IntegrityKey;
 use crate::keys::copied::copied;
@@ -127,8 +127,7 @@ impl LongTermKeyCredentials {
     /// MD5 of `username:realm:password`, 16 bytes, and for `Sha256` its SHA-256, 32 bytes
     /// (RFC 8489, sections 9.2.2 and 18.5.1). The three texts are not copied.
     ///
-    /// One allocation. A key that makes more than two HMACs is faster after
-    /// [`IntegrityKey::prepare`].
+    /// Two allocations: the key is prepared, as [`IntegrityKey::new`] makes one.
     ///
     /// # Errors
     ///
@@ -154,9 +153,12 @@ impl LongTermKeyCredentials {
         ensures ok { IfOk result (IsKey (Some algorithm)
             (long_term_key algorithm (long_term_username self.now) (long_term_realm self.now)
             (long_term_password self.now))) }
+        ensures prepared { IfOk result (λ key. is_prepared key ≡ true) }
         ensures err { IfErr result (λ e. e ≡ StunWriteError.OutOfMemory) }
     {
         let (username, realm, password) = (self.username(), self.realm(), self.password());
-        Ok(key_of_texts(alloc, username, realm, password, algorithm)?)
+        let mut key = key_of_texts(alloc, username, realm, password, algorithm)?;
+        key.prepare_in(alloc)?;
+        Ok(key)
     }
 }

@@ -8,7 +8,8 @@ use crate::keys::IntegrityKey;
 use std::alloc::{AllocError, Global};
 use stun_grammar::IntegrityAlgorithm;
 
-/// Makes the key that [`IntegrityKey::new`] makes.
+/// Makes the key that [`IntegrityKey::new`] makes, in one allocation: it isn't prepared, which pays for
+/// a key that makes one or two HMACs.
 pub fn key_of_bytes(
     alloc: Global,
     bytes: &[u8],

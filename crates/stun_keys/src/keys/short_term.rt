@@ -1,6 +1,6 @@
-ghost use Rattle.std.specs.Prelude.{◌≡◌, None, IfOk, IfErr};
+ghost use Rattle.std.specs.Prelude.{◌≡◌, true, None, IfOk, IfErr};
 ghost use Rattle.std.specs.String.{string_bytes};
-ghost use Rattle.stun_keys.specs.Keys.{short_term_password, IsKey};
+ghost use Rattle.stun_keys.specs.Keys.{short_term_password, IsKey, is_prepared};
 
 use crate::keys::IntegrityKey;
 use crate::keys::secret::SecretText;
@@ -62,8 +62,7 @@ impl ShortTermCredentials {
     /// Makes the key of the credentials, in memory from `alloc`: the bytes of the password. It has
     /// no algorithm, and so works with both (RFC 8489, section 9.1.1).
     ///
-    /// One allocation. A key that makes more than two HMACs is faster after
-    /// [`IntegrityKey::prepare`].
+    /// Two allocations: the key is prepared, as [`IntegrityKey::new`] makes one.
     ///
     /// # Errors
     ///
@@ -82,6 +81,7 @@ impl ShortTermCredentials {
     /// ```
     pub fn make_key(&self, alloc: Global) -> Result<IntegrityKey, StunWriteError>
         ensures ok { IfOk result (IsKey None (short_term_password self.now)) }
+        ensures prepared { IfOk result (λ key. is_prepared key ≡ true) }
         ensures err { IfErr result (λ e. e ≡ StunWriteError.OutOfMemory) }
     {
         IntegrityKey::new(alloc, self.password().as_bytes(), None)

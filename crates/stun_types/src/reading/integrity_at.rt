@@ -83,7 +83,7 @@ impl<'a> IntegrityAt<'a> {
 }
 
 /// The type of the integrity attribute of an algorithm.
-fn type_for(algorithm: IntegrityAlgorithm) -> u16
+pub(crate) fn type_for(algorithm: IntegrityAlgorithm) -> u16
     ensures { result ≡ type_of_algorithm algorithm }
 {
     match algorithm {

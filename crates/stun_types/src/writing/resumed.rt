@@ -2,16 +2,19 @@
 //! how many bytes of it are the message.
 
 use crate::attribute::{AttributeType, EncodeValue};
-use crate::message::{AddError, IntegrityAlgorithm, IntegrityKey, StunWriteError};
+use crate::message::{
+    AddError, CoveredText, Hmac, IntegrityAlgorithm, IntegrityKey, StunWriteError,
+};
+use crate::reading::type_for;
 use crate::writing::refusals::{Addition, barring, check_order, check_room, ending_types};
 use crate::writing::{ResumePoint, append_encoded, append_value};
-use stun_attributes::{fingerprint_at, hmac_sha1_at, hmac_sha256_at};
+use stun_attributes::fingerprint_at;
 use stun_base::pad_attribute_len;
-use stun_grammar::attribute_types::{FINGERPRINT, MESSAGE_INTEGRITY, MESSAGE_INTEGRITY_SHA256};
+use stun_grammar::attribute_types::FINGERPRINT;
 use stun_values::hmac_length;
 
 impl ResumePoint {
-    ghost use Rattle.std.specs.Prelude.{◌≡◌, ◌+◌, ◌≤◌, length, take, OnOk, MatchResult, None, Some};
+    ghost use Rattle.std.specs.Prelude.{◌≡◌, ◌+◌, ◌≤◌, [], length, take, OnOk, MatchResult, None, Some};
     ghost use Rattle.std.specs.Option.{option_or};
     ghost use Rattle.stun_grammar.specs.Adding.{order_refusal, room_refusal};
     ghost use Rattle.stun_grammar.specs.AttributeTypes.{FINGERPRINT as FINGERPRINT_TYPE};
@@ -21,6 +24,7 @@ impl ResumePoint {
     ghost use Rattle.stun_grammar.specs.Writing.{greatest_length};
     ghost use Rattle.stun_keys.specs.Keys.{key_bytes};
     ghost use Rattle.stun_types.specs.Additions.{step_of};
+    ghost use Rattle.stun_types.specs.GivenHmacs.{hmac_algorithm, hmac_bytes, IsNextText};
     ghost use Rattle.stun_types.specs.Resuming.{message_types};
     ghost use Rattle.stun_types.specs.ResumePoints.{resumed_length, IsPointOf, any_in, step_in, AppendsIn};
 
@@ -196,16 +200,101 @@ impl ResumePoint {
         let added = 4 + hmac_length(algorithm);
         self.check_add(slice, Addition::Integrity(algorithm), added)?;
         let len = self.written;
-        match algorithm {
-            IntegrityAlgorithm::Sha1 => {
-                let hmac = hmac_sha1_at(key, &slice[..len], len, 20);
-                append_value(AttributeType(MESSAGE_INTEGRITY), &hmac, len, slice);
-            }
-            IntegrityAlgorithm::Sha256 => {
-                let hmac = hmac_sha256_at(key, &slice[..len], len, 32);
-                append_value(AttributeType(MESSAGE_INTEGRITY_SHA256), &hmac, len, slice);
-            }
-        }
+        let text = CoveredText::at(&slice[..len], len, algorithm, hmac_length(algorithm));
+        let hmac = text.hmac(key);
+        append_value(
+            AttributeType(type_for(algorithm)),
+            hmac.as_bytes(),
+            len,
+            slice,
+        );
+        Ok(len + added)
+    }
+
+    /// The bytes that the integrity attribute of an algorithm would cover if it were added to the
+    /// message at the point, for a caller who computes the HMAC. They borrow the slice. It allocates
+    /// nothing.
+    ///
+    /// # Requires
+    ///
+    /// As for [`ResumePoint::add_value`].
+    ///
+    /// # Errors
+    ///
+    /// As for [`ResumePoint::add_message_integrity_with_key`].
+    ///
+    /// # Examples
+    ///
+    /// ```
+    /// use stun_types::message::{Hmac, IntegrityAlgorithm, IntegrityKey, Message, ResumePoint};
+    ///
+    /// let key = IntegrityKey::new(alloc, b"secret", None)?;
+    /// let mut slice = [0; 64];
+    /// slice[..20].copy_from_slice(b"\x00\x01\x00\x00\x21\x12\xA4\x42abcdefghijkl");
+    /// let point = ResumePoint::check(&slice, 20)?;
+    /// let text = point.next_integrity_text(&slice, IntegrityAlgorithm::Sha256)?;
+    /// // Here the caller's own code computes it.
+    /// let hmac = Hmac::Sha256(key.hmac_sha256(&text.pieces()));
+    /// let written = point.add_message_integrity_with_hmac(&mut slice, &hmac)?;
+    /// let message = Message::from_bytes(&slice[..written])?;
+    /// let verdict = message.validate_integrity_with_key(&key);
+    /// assert_eq!(rt; verdict, Ok(IntegrityAlgorithm::Sha256));
+    /// ```
+    #[tactic(auto, using(stun_grammar::proofs::AddingRefusedLemmas::signing_barred, stun_grammar::proofs::AddingLemmas::hmac_padded))]
+    pub fn next_integrity_text(
+        self,
+        slice: &[u8],
+        algorithm: IntegrityAlgorithm,
+    ) -> Result<CoveredText<'_>, StunWriteError>
+        requires { IsPointOf self slice.now }
+        ensures { MatchResult result
+            (λ text. IsNextText (step_in (length slice.now) (sign algorithm [])
+            (take (resumed_length self) slice.now)) (take (resumed_length self) slice.now)
+            algorithm text)
+            (λ e. step_in (length slice.now) (sign algorithm [])
+            (take (resumed_length self) slice.now) ≡ Some e) }
+    {
+        let count = hmac_length(algorithm);
+        self.check_add(slice, Addition::Integrity(algorithm), 4 + count)?;
+        let len = self.written;
+        Ok(CoveredText::at(&slice[..len], len, algorithm, count))
+    }
+
+    /// Signs the message at the point with an HMAC that the caller computed over the bytes that
+    /// [`ResumePoint::next_integrity_text`] returned, as
+    /// [`ResumePoint::add_message_integrity_with_key`] does with a key. With an HMAC over other bytes
+    /// the message doesn't validate.
+    ///
+    /// # Requires
+    ///
+    /// As for [`ResumePoint::add_value`]: so nothing was added since the point was checked.
+    ///
+    /// # Errors
+    ///
+    /// As for [`ResumePoint::add_message_integrity_with_key`].
+    #[tactic(auto, using(stun_grammar::proofs::AddingRefusedLemmas::signing_barred, stun_grammar::proofs::AddingLemmas::hmac_padded))]
+    pub fn add_message_integrity_with_hmac(
+        self,
+        slice: &mut [u8],
+        hmac: &Hmac,
+    ) -> Result<usize, StunWriteError>
+        requires { IsPointOf self slice.old }
+        ensures { AppendsIn
+            (step_in (length slice.old) (sign (hmac_algorithm hmac.now) [])
+            (take (resumed_length self) slice.old)) (type_of_algorithm (hmac_algorithm hmac.now))
+            (hmac_bytes hmac.now)
+            result (resumed_length self) slice.old slice.new }
+    {
+        let algorithm = hmac.algorithm();
+        let added = 4 + hmac_length(algorithm);
+        self.check_add(slice, Addition::Integrity(algorithm), added)?;
+        let len = self.written;
+        append_value(
+            AttributeType(type_for(algorithm)),
+            hmac.as_bytes(),
+            len,
+            slice,
+        );
         Ok(len + added)
     }
 

@@ -8,9 +8,10 @@ ghost use Rattle.stun_types.specs.Runs.{plain, AddsOrdinary, MakesKey, Runs};
 
 use crate::attribute::AttributeWrite;
 use crate::message::{
-    IntegrityAlgorithm, IntegrityKey, Message, MessageIntegrityCredentials, MessageType,
+    Hmac, IntegrityAlgorithm, IntegrityKey, Message, MessageIntegrityCredentials, MessageType,
     StunWriteError, TransactionId,
 };
+use crate::writing::protect::add_given_hmac;
 use crate::writing::{MessageWrite, MessageWriteExt};
 use std::alloc::Global;
 
@@ -26,6 +27,11 @@ pub enum Step<'s, O> {
     /// Signs the message so far: the integrity attribute of an algorithm, with a key, as
     /// [`MessageWriteExt::add_message_integrity_with_key`] adds it.
     SignKey(&'s IntegrityKey, IntegrityAlgorithm),
+    /// Signs the message so far with an HMAC that the caller computed over the bytes that the attribute
+    /// covers. To get these, write the steps before it once, and ask
+    /// [`NextIntegrity::text`](crate::message::NextIntegrity::text). With an HMAC over other bytes the
+    /// message doesn't validate.
+    SignHmac(&'s Hmac),
     /// Ends the message by a FINGERPRINT, as [`MessageWriteExt::add_fingerprint`] adds it.
     Fingerprint,
 }
@@ -54,6 +60,7 @@ fn take_step<B: MessageWrite>(
             write.add_message_integrity(alloc, *credentials, *algorithm)
         }
         Step::SignKey(key, algorithm) => write.add_message_integrity_with_key(*key, *algorithm),
+        Step::SignHmac(hmac) => add_given_hmac(write, *hmac),
         Step::Fingerprint => write.add_fingerprint(),
     }
 }
@@ -119,7 +126,8 @@ pub fn write_steps_into<B: MessageWrite>(
 ///
 /// What is written is the message of the accepted steps. It parses, and shows their attributes in
 /// order, a FINGERPRINT among them with the right value. It validates with the key of the last step
-/// that signs, and with the key of each step that signs, made for the step's algorithm. And it may
+/// that signs, and with the key of each step that signs, made for the step's algorithm; the key of
+/// [`Step::SignHmac`] is the one with which its HMAC was computed. And it may
 /// be in the list of messages that were sent, from which the law `integrity_has_origin` says
 /// who sent a message that validates.
 ///

@@ -3,4 +3,4 @@ use Rattle.stun_server.proofs.binding.reply.Goals as goal
 
 pub returns-clause-made : goal.returns-clause-made
 returns-clause-made c =
-    c.in-Some.ensures.1 c.args.source ∙ ap (λ (t : List ℕ). Some t) (sym c.to.ensures ∙ sym c.in_ok-to_vector.ensures.ok)
+    c.in-Some.ensures.1 c.args.source ∙ ap (λ (t : List ℕ). Some t) (sym c.to.ensures.reply ∙ sym c.in_ok-to_vector.ensures.ok)

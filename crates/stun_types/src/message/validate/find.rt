@@ -2,7 +2,7 @@
 
 ghost use Rattle.std.specs.Prelude.{◌≡◌, ◌≢◌, ℕ, List, Err, MatchResult};
 ghost use Rattle.stun_grammar.specs.Numbers.{IsBytes};
-ghost use Rattle.stun_grammar.specs.Verdicts.{is_checked_type, verdict};
+ghost use Rattle.stun_grammar.specs.Verdicts.{is_checked_type, verdict_by};
 ghost use Rattle.stun_grammar.specs.declared.integrity_algorithm.IntegrityAlgorithm.{IntegrityAlgorithm};
 ghost use Rattle.stun_types.specs.Offsets.{OffsetsOf};
 ghost use Rattle.stun_types.specs.Validating.{shown_integrity, IsChecked};
@@ -22,8 +22,8 @@ pub(super) fn find_checked(
     requires { OffsetsOf offsets bytes.now }
     ensures verdict { MatchResult result
         (λ found. IsChecked made_for bytes.now (shown_integrity found))
-        (λ e. (key : IntegrityAlgorithm → List ℕ)
-        → verdict (is_checked_type made_for) key bytes.now ≡ Err e) }
+        (λ e. (given : IntegrityAlgorithm → List ℕ → List ℕ)
+        → verdict_by (is_checked_type made_for) given bytes.now ≡ Err e) }
     ensures memory { result ≢ Err (ValidateError.Parse StunParseError.OutOfMemory) }
     // each number in the slice is below 256, which the laws on what an HMAC authenticates require
     ensures bytes { IsBytes bytes.now }

@@ -11,6 +11,7 @@ use crate::writing::refusals::{Addition, check_add};
 use crate::writing::{MessageWrite, MessageWriteExt};
 use std::alloc::Global;
 use stun_base::pad_attribute_len;
+use stun_keys::keys::key_of_credentials;
 use stun_values::hmac_length;
 
 impl<W: MessageWrite> MessageWriteExt for W {
@@ -90,7 +91,7 @@ impl<W: MessageWrite> MessageWriteExt for W {
     ) -> Result<(), StunWriteError> {
         let size = 4 + hmac_length(algorithm);
         check_add(self, Addition::Integrity(algorithm), size)?;
-        let key = credentials.make_key(alloc, algorithm)?;
+        let key = key_of_credentials(alloc, credentials, algorithm)?;
         self.add_message_integrity_with_key_unchecked(&key, algorithm)
     }
 

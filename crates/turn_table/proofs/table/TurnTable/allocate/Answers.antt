@@ -1,11 +1,11 @@
-use Rattle.std.proofs.Common.{◌≡◌, ℕ, length, ◌≤◌, subst, sym, ap, ◌∙◌}
+use Rattle.std.proofs.Common.{◌≡◌, ℕ, Some, length, ◌≤◌, subst, sym, ap, ◌∙◌}
 use Rattle.turn_table.specs.Users.{user_number}
 use Rattle.turn_table.specs.Steps.{at}
 use Rattle.turn_table.specs.Outputs.{setup_of}
 use Rattle.turn_table.specs.Slots.{Kept}
 use Rattle.turn_table.specs.Tables.{Table}
 use Rattle.turn_table.specs.Allocates.{Allocates}
-use Rattle.turn_table.specs.declared.reply.AllocateReply.TheVariants.{Opened, Refused}
+use Rattle.turn_table.specs.declared.reply.Reply.TheVariants.{Allocated, Refused}
 use Rattle.turn_table.proofs.AllocatingLemmas.{again_is, unmet_is, over_quota_is, full_is, opened_is}
 use Rattle.turn_table.proofs.table.TurnTable.allocate.Goals as goal
 
@@ -64,7 +64,7 @@ returns-clause-step g c address port =
     let e : s ≡ at c.args.now old = ap (λ (k : Kept). k.state) c.advance.ensures in
     let most : c.advance.new.self.most ≡ c.self.inside.limits.allocations = ap (λ (k : Kept). k.most) c.advance.ensures ∙ c.self.invariant.most in
     subst
-    (λ (t : Table). Allocates (setup_of t.limits g.row.P g.row.C address port) t.state c.args.now c.args.tuple.now (user_number c.args.user) c.args.id c.args.lifetime c.args.wish (Opened c.in-Some-open.relay c.in-Ok.relayed c.allocated_for-lifetime.result) c.open.new.self.state)
+    (λ (t : Table). Allocates (setup_of t.limits g.row.P g.row.C address port) t.state c.args.now c.args.tuple.now (user_number c.args.user) c.args.id c.args.lifetime c.args.wish (Allocated c.in-Ok.relayed c.allocated_for-lifetime.result (Some c.in-Some-open.relay)) c.open.new.self.state)
     c.self.view_is
     (opened_is setup old c.args.now c.args.tuple.now (user_number c.args.user) c.args.id c.args.lifetime c.args.wish c.in-Ok.relayed c.advance.new.self c.open.new.self c.allocated_for-lifetime.result c.in-Some-open.relay e c.in_default.ensures c.in-Ok.is (sym (c.has_quota-is_within.ensures g.row.P g.row.C address port) ∙ c.if-not-is_within.false) most
     c.allocated_for-lifetime.ensures c.in-Some-open.ensures)

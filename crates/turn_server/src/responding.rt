@@ -1,0 +1,245 @@
+//! The responses to a client, each written at the start of a buffer.
+
+ghost use Rattle.std.specs.Prelude.{◌≡◌, None, Some, length, true};
+ghost use Rattle.stun_base.specs.MessageTypes.{class_of};
+ghost use Rattle.stun_base.specs.declared.message_class.MessageClass.TheVariants.{Request};
+ghost use Rattle.stun_grammar.specs.declared.integrity_algorithm.IntegrityAlgorithm.{IntegrityAlgorithm};
+ghost use Rattle.stun_grammar.specs.Headers.{type_field};
+ghost use Rattle.stun_keys.specs.Keys.{key_algorithm, key_bytes};
+ghost use Rattle.stun_types.specs.Message.{message_bytes};
+ghost use Rattle.stun_authentication.specs.Asking.{asked_in};
+ghost use Rattle.stun_authentication.specs.Lookups.{UserKey};
+ghost use Rattle.stun_authentication.specs.Refusing.{refusal_of, refusal_sizes};
+ghost use Rattle.stun_authentication.specs.Writing.{no_room};
+ghost use Rattle.stun_server.specs.InSlice.{written_in, slice_after};
+ghost use Rattle.turn_table.specs.Outputs.{answer_of, opened_in};
+ghost use Rattle.turn_server.specs.Access.{asked_by, software_in};
+ghost use Rattle.turn_server.specs.Answers.{answer_text, answer_refusal, unknown_text, unknown_refusal};
+ghost use Rattle.turn_server.specs.Reporting.{Signs};
+ghost use Rattle.turn_server.specs.Responses.{IsWritten, IsResponse, binding_owed, refusal_owed, types_owed, answer_owed, answer_code, opened_with};
+
+use crate::access::{Access, seconds};
+use crate::answers::write_answer;
+use crate::unknown::write_unknown;
+use crate::{Opened, Response, socket_of};
+use std::alloc::Global;
+use std::net::SocketAddr;
+use stun_authentication::{
+    Accepted, Challenge, ChallengeError, Refusal, nonces_are_texts, refuse_long_term,
+};
+use stun_server::Reply as BindingReply;
+use stun_types::attribute::ErrorCode;
+use stun_types::message::{Message, MessageWriteVec, StunWriteError};
+use stun_types::prelude::*;
+use turn_table::{Endpoint, Reply};
+
+/// Copies a message to the start of a buffer, if that has room for it, and returns its length.
+fn copied(message: &[u8], buffer: &mut [u8]) -> Result<usize, StunWriteError>
+    ensures answer { result ≡ written_in message.now (length buffer.old) }
+    ensures buffer { buffer.new ≡ slice_after (Some message.now) buffer.old }
+{
+    if buffer.len() < message.len() {
+        return Err(StunWriteError::TooSmall {
+            expected: message.len(),
+            actual: buffer.len(),
+        });
+    }
+    buffer[..message.len()].copy_from_slice(message);
+    Ok(message.len())
+}
+
+/// The reply to a Binding request.
+pub(crate) fn bind(request: &Message<'_>, client: Endpoint, buffer: &mut [u8]) -> Response
+    ensures { IsResponse (binding_owed client (message_bytes request.now)) None buffer.old buffer.new
+        result }
+{
+    let reply = BindingReply::to(*request, socket_of(client));
+    Response {
+        written: reply.write_into(buffer),
+        code: reply.code(),
+        opened: None,
+    }
+}
+
+/// The error if nothing can be asked for: a list is offered exactly if the nonce promises one, so only
+/// an allocation fails.
+fn out_of_memory(error: ChallengeError) -> StunWriteError
+    requires { error ≡ ChallengeError.OutOfMemory }
+    ensures { result ≡ StunWriteError.OutOfMemory }
+{
+    match error {
+        ChallengeError::OutOfMemory => StunWriteError::OutOfMemory,
+        _ => unreachable!(),
+    }
+}
+
+/// Writes the response that refuses a request, and asks for this.
+fn write_challenge(
+    alloc: Global,
+    request: &Message<'_>,
+    refusal: Refusal,
+    challenge: &Challenge<'_>,
+    buffer: &mut [u8],
+) -> Result<usize, StunWriteError>
+    requires { class_of (type_field (message_bytes request.now)) ≡ Request }
+    ensures { let r = message_bytes request.now in let asked = Some (asked_in challenge.now) in
+        IsWritten true (no_room None 20 (refusal_sizes r refusal asked)) (refusal_of r refusal asked)
+        buffer.old buffer.new result }
+{
+    let write = MessageWriteVec::new(alloc);
+    let write = refuse_long_term(alloc, request, refusal, challenge, write)?;
+    copied(&write.finish(), buffer)
+}
+
+/// Writes the response that refuses a request, with a new nonce for its client.
+fn write_refusal(
+    alloc: Global,
+    access: &Access,
+    now: u64,
+    client: SocketAddr,
+    request: &Message<'_>,
+    refusal: Refusal,
+    buffer: &mut [u8],
+) -> Result<usize, StunWriteError>
+    requires { class_of (type_field (message_bytes request.now)) ≡ Request }
+    ensures { let r = message_bytes request.now in let asked = Some (asked_by access.now now client) in
+        IsWritten true (no_room None 20 (refusal_sizes r refusal asked)) (refusal_of r refusal asked)
+        buffer.old buffer.new result }
+{
+    nonces_are_texts();
+    let nonce = access.nonces.make(alloc, seconds(now), &client)?;
+    match Challenge::new(alloc, &access.realm, &nonce, access.algorithms()) {
+        Ok(challenge) => write_challenge(alloc, request, refusal, &challenge, buffer),
+        Err(error) => Err(out_of_memory(error)),
+    }
+}
+
+/// The response that refuses a request.
+pub(crate) fn refuse(
+    alloc: Global,
+    access: &Access,
+    now: u64,
+    client: Endpoint,
+    request: &Message<'_>,
+    refusal: Refusal,
+    buffer: &mut [u8],
+) -> Response
+    requires { class_of (type_field (message_bytes request.now)) ≡ Request }
+    ensures { IsResponse (refusal_owed access.now now client (message_bytes request.now) refusal) None
+        buffer.old buffer.new result }
+{
+    let client = socket_of(client);
+    Response {
+        written: write_refusal(alloc, access, now, client, request, refusal, buffer),
+        code: Some(refusal.code()),
+        opened: None,
+    }
+}
+
+/// Writes the response to a request that shows types that aren't comprehended.
+fn write_types(
+    alloc: Global,
+    request: &Message<'_>,
+    accepted: &Accepted<'_>,
+    buffer: &mut [u8],
+) -> Result<usize, StunWriteError>
+    requires { class_of (type_field (message_bytes request.now)) ≡ Request }
+    ensures { let r = message_bytes request.now in
+        IsWritten true
+        (unknown_refusal None r (key_algorithm accepted.now.key) accepted.now.reply_algorithm)
+        (unknown_text r (key_bytes accepted.now.key) accepted.now.reply_algorithm)
+        buffer.old buffer.new result }
+{
+    let write = write_unknown(alloc, request, accepted, MessageWriteVec::new(alloc))?;
+    copied(&write.finish(), buffer)
+}
+
+/// The response to a request that shows types that aren't comprehended.
+pub(crate) fn refuse_types(
+    alloc: Global,
+    request: &Message<'_>,
+    accepted: &Accepted<'_>,
+    buffer: &mut [u8],
+) -> Response
+    requires { class_of (type_field (message_bytes request.now)) ≡ Request }
+    ensures { (key : UserKey) (algorithm : IntegrityAlgorithm) → Signs key algorithm accepted.now
+        → IsResponse (types_owed (message_bytes request.now) key algorithm) None
+        buffer.old buffer.new result }
+{
+    Response {
+        written: write_types(alloc, request, accepted, buffer),
+        code: Some(ErrorCode::UNKNOWN_ATTRIBUTE),
+        opened: None,
+    }
+}
+
+/// Writes the answer to a user's request.
+fn write_reply(
+    alloc: Global,
+    access: &Access,
+    client: Endpoint,
+    request: &Message<'_>,
+    reply: Reply,
+    accepted: &Accepted<'_>,
+    buffer: &mut [u8],
+) -> Result<usize, StunWriteError>
+    requires { class_of (type_field (message_bytes request.now)) ≡ Request }
+    ensures { let r = message_bytes request.now in
+        IsWritten true
+        (answer_refusal None (software_in access.now) client r (answer_of reply)
+        (key_algorithm accepted.now.key) accepted.now.reply_algorithm)
+        (answer_text (software_in access.now) client r (answer_of reply)
+        (key_bytes accepted.now.key) accepted.now.reply_algorithm) buffer.old buffer.new result }
+{
+    let software = access.software.as_ref();
+    let write = MessageWriteVec::new(alloc);
+    let write = write_answer(alloc, request, client, software, reply, accepted, write)?;
+    copied(&write.finish(), buffer)
+}
+
+/// The code of an answer that is an error.
+fn code_of(reply: Reply) -> Option<u16>
+    ensures { result ≡ answer_code (answer_of reply) }
+{
+    match reply {
+        Reply::Refused(code) => Some(code),
+        _ => None,
+    }
+}
+
+/// The socket of an allocation that was opened.
+fn opened_with(reply: Reply) -> Option<Opened>
+    ensures { result ≡ opened_with (answer_of reply) (opened_in reply) }
+{
+    match reply {
+        Reply::Allocated {
+            relayed,
+            opened: Some(number),
+            ..
+        } => Some(Opened { number, relayed }),
+        _ => None,
+    }
+}
+
+/// The answer to a user's request.
+pub(crate) fn answer(
+    alloc: Global,
+    access: &Access,
+    client: Endpoint,
+    request: &Message<'_>,
+    reply: Reply,
+    accepted: &Accepted<'_>,
+    buffer: &mut [u8],
+) -> Response
+    requires { class_of (type_field (message_bytes request.now)) ≡ Request }
+    ensures { (key : UserKey) (algorithm : IntegrityAlgorithm) → Signs key algorithm accepted.now
+        → IsResponse
+        (answer_owed access.now client (message_bytes request.now) (answer_of reply) key algorithm)
+        (opened_with (answer_of reply) (opened_in reply)) buffer.old buffer.new result }
+{
+    Response {
+        written: write_reply(alloc, access, client, request, reply, accepted, buffer),
+        code: code_of(reply),
+        opened: opened_with(reply),
+    }
+}
