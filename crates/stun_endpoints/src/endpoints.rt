@@ -8,7 +8,7 @@ ghost use Rattle.stun_endpoints.specs.Endpoints.{small_parts};
 
 use std::hash::{Hash, Hasher};
 
-/// An IP address.
+/// An IP address, as its family and its bytes as a number. `Ip::from` and `IpAddr::from` convert it.
 #[derive(Clone, Copy, Debug, Default, PartialEq, Eq, Hash)]
 pub struct Ip {
     /// The address family: 1 for IPv4 and 2 for IPv6.
@@ -17,7 +17,7 @@ pub struct Ip {
     pub number: u128,
 }
 
-/// A transport address: an IP address and a port.
+/// A transport address: an IP address and a port. `Endpoint::from` and `SocketAddr::from` convert it.
 #[derive(Clone, Copy, Debug, Default, PartialEq, Eq, Hash)]
 pub struct Endpoint {
     /// The IP address.
@@ -35,6 +35,33 @@ pub struct FiveTuple {
     pub server: Endpoint,
     /// The protocol between both, by a number of the caller's choice, such as 17 for UDP.
     pub transport: u8,
+}
+
+impl Ip {
+    ghost use Rattle.std.specs.Prelude.{◌≡◌};
+    ghost use Rattle.stun_endpoints.specs.Conversions.{is_address};
+
+    /// Whether it is an address: of family 1 with a number of at most 32 bits, or of family 2.
+    ///
+    /// # Examples
+    ///
+    /// ```
+    /// use stun_endpoints::Ip;
+    ///
+    /// assert!(rt; Ip { family: 1, number: 0xFFFF_FFFF }.is_address());
+    /// assert!(rt; !Ip { family: 1, number: 0x1_0000_0000 }.is_address());
+    /// assert!(rt; Ip { family: 2, number: 0x1_0000_0000 }.is_address());
+    /// assert!(rt; !Ip::default().is_address());
+    /// ```
+    pub fn is_address(self) -> bool
+        ensures { result ≡ is_address self }
+    {
+        match self.family {
+            1 => self.number < 1 << 32,
+            2 => true,
+            _ => false,
+        }
+    }
 }
 
 impl FiveTuple {

@@ -1,7 +1,10 @@
 //! The addresses of STUN, TURN and ICE as two numbers, which a server and an agent keep and compare: an
-//! IP address, a transport address, and the 5-tuple that identifies a TURN client.
+//! IP address, a transport address, and the 5-tuple that identifies a TURN client. They convert from
+//! and to the addresses of the standard library.
 #![tactic(auto)]
 
+mod conversions;
 mod endpoints;
 
+pub use conversions::sockets_are_of_endpoints;
 pub use endpoints::{Endpoint, FiveTuple, Ip};

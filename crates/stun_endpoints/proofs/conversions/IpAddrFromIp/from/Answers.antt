@@ -1,7 +1,7 @@
 use Rattle.std.proofs.Common.{ap, ◌∙◌}
 use Rattle.std.specs.Net.Addr.{segments_of}
-use Rattle.turn_server.proofs.EndpointsLemmas.{is_ipv6}
-use Rattle.turn_server.proofs.endpoints.ip_of.Goals as goal
+use Rattle.stun_endpoints.proofs.ConversionsLemmas.{is_ipv6}
+use Rattle.stun_endpoints.proofs.conversions.IpAddrFromIp.from.Goals as goal
 
 pub returns : goal.returns
 returns c =

@@ -1,5 +1,7 @@
--- Addresses of the table, as socket addresses and back.
-use Rattle.std.proofs.Common.{◌≡◌, ℕ, zero, suc, ◌+◌, ◌-◌, ◌*◌, ◌/◌, ◌%◌, ◌^◌, ◌<◌, List, [], ◌∷◌, length, inl, inr, refl, ap, ◌∙◌, ne_eqb, arith}
+-- Transport addresses as socket addresses, and back.
+use Rattle.std.proofs.Common.{◌≡◌, ℕ, zero, suc, ◌+◌, ◌-◌, ◌*◌, ◌/◌, ◌%◌, ◌^◌, ◌<◌, List, [], ◌∷◌, length, true, inl, inr, refl, ap, ◌∙◌, ne_eqb, arith}
+use Rattle.std.specs.Prelude.{◌&&◌, ◌==◌, ◌⊎◌, nat_lt}
+use Rattle.std.proofs.lemmas.Bool.{and_parts, or_cases, eqb-true, ltb-true}
 use Rattle.std.specs.Int.{w128, byte_at, bytes_high_first, to_be_bytes}
 use Rattle.std.specs.Net.Addr.{segments_of, octets_of, ipv6_segments}
 use Rattle.std.specs.Net.Socket.{socket_ip, socket_port, socket_flowinfo, socket_scope_id}
@@ -10,10 +12,8 @@ use Rattle.std.specs.declared.net.socket_addr.SocketAddr.{SocketAddr}
 use Rattle.std.specs.declared.net.socket_addr.SocketAddr.TheVariants.{V4, V6}
 use Rattle.stun_grammar.specs.Numbers.{number, be32, IsBytes}
 use Rattle.stun_values.specs.Addresses.{plain_socket}
-use Rattle.turn_table.specs.declared.endpoints.Endpoint.{Endpoint}
-use Rattle.turn_table.specs.declared.endpoints.Ip.{Ip}
-use Rattle.turn_server.specs.Addresses.{endpoint_of}
-use Rattle.turn_server.specs.Endpoints.{IsTransportAddress, ip_of, socket_of}
+use Rattle.stun_endpoints.specs.Endpoints.{Ip, Endpoint}
+use Rattle.stun_endpoints.specs.Conversions.{is_address, ip_addr_of, endpoint_of, socket_of}
 
 -- an address with flow info and scope ID 0 is determined by its IP address and its port
 pub plain_is : (a : SocketAddr) (ip : IpAddr) (port : ℕ) → socket_ip a ≡ ip → socket_port a ≡ port → socket_flowinfo a ≡ 0 → socket_scope_id a ≡ 0 → a ≡ plain_socket ip port
@@ -21,7 +21,7 @@ plain_is (V4 a) ip port of p flow scope = rw (← of) (λ i. V4 (record { ip = a
 plain_is (V6 a) ip port of p flow scope = rw (← of) (λ i. V6 (record { ip = a.ip; port = p i; flowinfo = flow i; scope_id = scope i }))
 
 -- an address of another family than 1
-pub is_ipv6 : (ip : Ip) (a : Ipv6Addr) → (ip.family ≡ 1 → ⊥) → ipv6_segments a ≡ segments_of (to_be_bytes w128 ip.number) → IpV6 a ≡ ip_of ip
+pub is_ipv6 : (ip : Ip) (a : Ipv6Addr) → (ip.family ≡ 1 → ⊥) → ipv6_segments a ≡ segments_of (to_be_bytes w128 ip.number) → IpV6 a ≡ ip_addr_of ip
 is_ipv6 ip a other is = rw (ne_eqb ip.family 1 other) (λ i. IpV6 (record { segments = is i }))
 
 number-be32 : (n : ℕ) → n < 2 ^ 32 → number (be32 n) ≡ n
@@ -56,7 +56,14 @@ of_ipv6 kind n port is small =
     let back : number (octets_of (segments_of (to_be_bytes w128 n))) ≡ n = ap number (in_pairs 8 (to_be_bytes w128 n) refl (bytes_are 16 n)) ∙ number-be128 n small in
     rw is (λ i. record { ip = record { family = 2; number = back i }; port = port })
 
--- the address of the table that has the socket address of one is that one
-pub there_and_back : (e : Endpoint) → IsTransportAddress e → endpoint_of (socket_of e) ≡ e
-there_and_back e (inl four) = of_ipv4 e.ip.family e.ip.number e.port four.0 four.1
-there_and_back e (inr six) = of_ipv6 e.ip.family e.ip.number e.port six.0 six.1
+by_kind : (e : Endpoint) → (((e.ip.family == 1) && nat_lt e.ip.number (2 ^ 32)) ≡ true) ⊎ (((e.ip.family == 2) && nat_lt e.ip.number (2 ^ 128)) ≡ true) → endpoint_of (socket_of e) ≡ e
+by_kind e (inl four) =
+    let both = and_parts (e.ip.family == 1) (nat_lt e.ip.number (2 ^ 32)) four in
+    of_ipv4 e.ip.family e.ip.number e.port (eqb-true e.ip.family 1 both.0) (ltb-true e.ip.number (2 ^ 32) both.1)
+by_kind e (inr six) =
+    let both = and_parts (e.ip.family == 2) (nat_lt e.ip.number (2 ^ 128)) six in
+    of_ipv6 e.ip.family e.ip.number e.port (eqb-true e.ip.family 2 both.0) (ltb-true e.ip.number (2 ^ 128) both.1)
+
+-- a transport address that is converted, and back, is the same
+pub there_and_back : (e : Endpoint) → is_address e.ip ≡ true → endpoint_of (socket_of e) ≡ e
+there_and_back e is = by_kind e (or_cases ((e.ip.family == 1) && nat_lt e.ip.number (2 ^ 32)) ((e.ip.family == 2) && nat_lt e.ip.number (2 ^ 128)) is)
