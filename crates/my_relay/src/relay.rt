@@ -5,12 +5,11 @@ use std::alloc::{AllocError, Global};
 use std::collections::BTreeMap;
 use std::net::SocketAddr;
 use stun_authentication::Logins;
+use stun_endpoints::{Endpoint, FiveTuple};
 use stun_types::message::{LongTermCredentials, StunWriteError, TransactionId};
-use turn_server::{
-    Access, Action, Opened, Ready, Site, Sockets, TurnServer, endpoint_of, socket_of,
-};
+use turn_server::{Access, Action, Opened, Ready, Site, Sockets, TurnServer};
+use turn_table::Limits;
 use turn_table::peers::Peers;
-use turn_table::{FiveTuple, Limits};
 
 /// How many bytes a buffer has before the data of a peer: room for the longest head.
 pub const HEAD: usize = 48;
@@ -86,7 +85,7 @@ impl<'a, S: Drop> Relay<'a, S> {
         let any = self
             .ready
             .as_ref()
-            .map(|(address, _)| endpoint_of(*address));
+            .map(|(address, _)| Endpoint::from(*address));
         let even = any.filter(|address| address.port % 2 == 0);
         Site {
             access: self.access,
@@ -119,8 +118,8 @@ impl<'a, S: Drop> Relay<'a, S> {
         buffer: &'d mut [u8],
     ) -> Result<Sending<'d, S>, StunWriteError> {
         let from = FiveTuple {
-            client: endpoint_of(client),
-            server: endpoint_of(self.own),
+            client: Endpoint::from(client),
+            server: Endpoint::from(self.own),
             transport: 17,
         };
         let site = self.site();
@@ -149,7 +148,7 @@ impl<'a, S: Drop> Relay<'a, S> {
                 match (self.sockets.get(&relay), data.of(datagram)) {
                     (Some(socket), Some(data)) => Ok(Sending::ToPeer {
                         socket,
-                        peer: socket_of(peer),
+                        peer: SocketAddr::from(peer),
                         data,
                     }),
                     _ => Ok(Sending::Nothing),
@@ -171,7 +170,7 @@ impl<'a, S: Drop> Relay<'a, S> {
         length: usize,
     ) -> Option<(SocketAddr, &'b [u8])> {
         let (before, after) = buffer.split_at_mut_checked(HEAD)?;
-        let peer = endpoint_of(peer);
+        let peer = Endpoint::from(peer);
         let delivery = self
             .server
             .on_peer_datagram(now, number, peer, length, id, before)?;
@@ -179,7 +178,7 @@ impl<'a, S: Drop> Relay<'a, S> {
         after.get_mut(length..end)?.fill(0);
         let start = HEAD.checked_sub(usize::from(delivery.head_length))?;
         let bytes = buffer.get(start..HEAD.checked_add(end)?)?;
-        Some((socket_of(delivery.to.client), bytes))
+        Some((SocketAddr::from(delivery.to.client), bytes))
     }
 
     /// Closes the sockets of allocations that have ended, at most 64, by dropping them: call it once a

@@ -1,1 +1,2 @@
+pub mod AddressesLemmas
 mod ConversionsLemmas

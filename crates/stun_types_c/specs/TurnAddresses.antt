@@ -2,10 +2,9 @@
 use Rattle.std.specs.Prelude.{◌≡◌, ℕ, replicate, Option, None, Some, option_and_then, ◌==◌, if◌then◌else◌}
 use Rattle.std.specs.Option.{option_map}
 use Rattle.std.specs.declared.net.socket_addr.SocketAddr.{SocketAddr}
-use Rattle.turn_table.specs.declared.endpoints.Endpoint.{Endpoint}
-use Rattle.turn_table.specs.declared.endpoints.FiveTuple.{FiveTuple}
-use Rattle.turn_server.specs.Addresses.{endpoint_of}
-use Rattle.turn_server.specs.Endpoints.{socket_of}
+use Rattle.stun_endpoints.specs.declared.endpoints.Endpoint.{Endpoint}
+use Rattle.stun_endpoints.specs.declared.endpoints.FiveTuple.{FiveTuple}
+use Rattle.stun_endpoints.specs.Conversions.{endpoint_of, socket_of}
 use Rattle.turn_server.specs.declared.sockets.Ready.{Ready}
 use Rattle.turn_server.specs.declared.sockets.Sockets.{Sockets}
 use Rattle.stun_types_c.specs.declared.address.Address.{Address}

@@ -5,12 +5,12 @@ use Rattle.stun_keys.specs.declared.keys.integrity_key.IntegrityKey.{IntegrityKe
 use Rattle.stun_values.specs.declared.algorithm.PasswordAlgorithmValue.{PasswordAlgorithmValue}
 use Rattle.stun_authentication.specs.Identities.{Who}
 use Rattle.stun_authentication.specs.Lookups.{UserKey}
-use Rattle.turn_table.specs.declared.endpoints.Endpoint.{Endpoint}
-use Rattle.turn_table.specs.declared.endpoints.FiveTuple.{FiveTuple}
+use Rattle.stun_endpoints.specs.declared.endpoints.Endpoint.{Endpoint}
+use Rattle.stun_endpoints.specs.declared.endpoints.FiveTuple.{FiveTuple}
 use Rattle.turn_server.specs.Access.{nonces_at}
 use Rattle.turn_server.specs.Actions.{Acts}
 use Rattle.turn_server.specs.ChannelMessages.{last_channel}
-use Rattle.turn_server.specs.Endpoints.{socket_of}
+use Rattle.stun_endpoints.specs.Conversions.{socket_of}
 use Rattle.turn_server.specs.Judging.{needs_key}
 use Rattle.turn_server.specs.declared.action.Action.{Action}
 use Rattle.turn_server.specs.declared.action.Action.TheVariants.{Dropped, Response as Responds, ToPeer}

@@ -1,9 +1,9 @@
 -- What a TURN server does for a peer's datagram, as C sees it (RFC 8656, sections 11.3 and 12.7).
 use Rattle.std.specs.Prelude.{◌≡◌, ℕ, List, length, Option, None, Some, MatchOption, IsSomeAnd, nat_lt, if◌then◌else◌}
 use Rattle.stun_grammar.specs.Numbers.{number}
-use Rattle.turn_table.specs.declared.endpoints.Endpoint.{Endpoint}
+use Rattle.stun_endpoints.specs.declared.endpoints.Endpoint.{Endpoint}
 use Rattle.turn_table.specs.Polls.{Polls}
-use Rattle.turn_server.specs.Addresses.{endpoint_of}
+use Rattle.stun_endpoints.specs.Conversions.{endpoint_of}
 use Rattle.turn_server.specs.Delivering.{Receives as ReceivesBy}
 use Rattle.turn_server.specs.declared.action.Delivery.{Delivery}
 use Rattle.stun_types_c.specs.declared.address.Address.{Address}

@@ -1,13 +1,14 @@
 //! Where datagrams of TURN come from and go to, in C's form.
 
 ghost use Rattle.std.specs.Prelude.{◌≡◌};
-ghost use Rattle.turn_server.specs.Endpoints.{socket_of};
+ghost use Rattle.stun_endpoints.specs.Conversions.{socket_of};
 ghost use Rattle.stun_types_c.specs.Addresses.{Holds};
 ghost use Rattle.stun_types_c.specs.TurnAddresses.{transport_named, tuple_named, ready_named, family_named, sockets_named, HoldsTuple};
 
 use crate::address::{Address, in_c, socket_of};
-use turn_server::{Ready, Sockets, endpoint_of, socket_of as socket_of_endpoint};
-use turn_table::{Endpoint, FiveTuple};
+use std::net::SocketAddr;
+use stun_endpoints::{Endpoint, FiveTuple};
+use turn_server::{Ready, Sockets};
 
 /// A client, the address of the server that it sends to, and the transport between them.
 #[repr(C)]
@@ -71,20 +72,20 @@ pub(crate) fn tuple_of(named: &CFiveTuple) -> Option<FiveTuple>
     let server = socket_of(&named.server)?;
     let transport = transport_of(named.stream)?;
     Some(FiveTuple {
-        client: endpoint_of(client),
-        server: endpoint_of(server),
+        client: Endpoint::from(client),
+        server: Endpoint::from(server),
         transport,
     })
 }
 
-/// An address of the table, in C's form.
+/// An address, in C's form.
 pub(crate) fn address_of(endpoint: Endpoint) -> Address
     ensures { Holds (socket_of endpoint) result }
 {
-    in_c(socket_of_endpoint(endpoint))
+    in_c(SocketAddr::from(endpoint))
 }
 
-/// A 5-tuple of the table, in C's form.
+/// A 5-tuple, in C's form.
 pub(crate) fn tuple_in_c(tuple: &FiveTuple) -> CFiveTuple
     ensures { HoldsTuple tuple.now result }
 {
@@ -106,7 +107,7 @@ fn endpoint_in(address: &Address, family: u16) -> Option<Option<Endpoint>>
         return None;
     }
     let address = socket_of(address)?;
-    Some(Some(endpoint_of(address)))
+    Some(Some(Endpoint::from(address)))
 }
 
 /// The sockets of a family that are ready.

@@ -18,8 +18,8 @@ use crate::turn_core::TurnCore;
 use crate::turn_handle::CTurn;
 use crate::turn_store::{put, take};
 use std::alloc::{AllocError, Global};
+use stun_endpoints::{Endpoint, FiveTuple};
 use turn_server::{Action, Opened, Response, Site, Sockets};
-use turn_table::{Endpoint, FiveTuple};
 
 /// What C does for a client's datagram.
 #[repr(C)]

@@ -15,9 +15,9 @@ use crate::turn_core::TurnCore;
 use crate::turn_handle::CTurn;
 use crate::turn_store::{put, take};
 use std::alloc::Global;
+use stun_endpoints::Endpoint;
 use stun_types::message::TransactionId;
-use turn_server::{Delivery, endpoint_of};
-use turn_table::Endpoint;
+use turn_server::Delivery;
 
 /// What C does with the data of a peer.
 #[repr(C)]
@@ -141,7 +141,7 @@ pub extern "C" fn stun_types_turn_peer(
         return plain(codes::BAD_ARGUMENT);
     };
     let id = TransactionId::from_bytes(&id.bytes);
-    let peer = endpoint_of(peer);
+    let peer = Endpoint::from(peer);
     let result = receive_in(&mut core, now, relay, peer, data_length, id, head, delivery);
     put(server, core);
     result

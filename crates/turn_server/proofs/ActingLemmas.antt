@@ -13,9 +13,9 @@ use Rattle.stun_authentication.specs.declared.answer.Accepted.{Accepted}
 use Rattle.stun_authentication.specs.declared.answer.Refusal.{Refusal}
 use Rattle.stun_authentication.specs.Identities.{Who}
 use Rattle.stun_authentication.specs.Lookups.{UserKey}
-use Rattle.turn_table.specs.declared.endpoints.Endpoint.{Endpoint}
-use Rattle.turn_table.specs.declared.endpoints.FiveTuple.{FiveTuple}
-use Rattle.turn_table.specs.declared.endpoints.Ip.{Ip}
+use Rattle.stun_endpoints.specs.declared.endpoints.Endpoint.{Endpoint}
+use Rattle.stun_endpoints.specs.declared.endpoints.FiveTuple.{FiveTuple}
+use Rattle.stun_endpoints.specs.declared.endpoints.Ip.{Ip}
 use Rattle.turn_table.specs.declared.user.UserId.{UserId}
 use Rattle.turn_table.specs.Allocations.{Allocation, Setup, State, allocation_of}
 use Rattle.turn_table.specs.Allocates.{offered, IsFor, Allocates}

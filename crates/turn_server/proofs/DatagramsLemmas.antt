@@ -1,7 +1,7 @@
 -- What a server keeps by the datagrams that came is what its table keeps by the events that they were.
 use Rattle.std.proofs.Common.{◌≡◌, ℕ, List, [], ◌∷◌, Option, Some, None, inl, inr, refl, ap, ◌∙◌}
 use Rattle.std.specs.Option.{option_map_or}
-use Rattle.turn_table.specs.declared.endpoints.FiveTuple.{FiveTuple}
+use Rattle.stun_endpoints.specs.declared.endpoints.FiveTuple.{FiveTuple}
 use Rattle.turn_table.specs.Allocations.{Setup, State}
 use Rattle.turn_table.specs.Events.{Request, Event, asks}
 use Rattle.turn_table.specs.Runs.{Timed, Happening, run, history}

@@ -17,7 +17,7 @@ use Rattle.stun_authentication.specs.Identities.{Who}
 use Rattle.stun_authentication.specs.Lookups.{UserKey}
 use Rattle.stun_server.specs.Reply.{reply}
 use Rattle.turn_attrs.specs.Channels.{channel_field}
-use Rattle.turn_table.specs.declared.endpoints.FiveTuple.{FiveTuple}
+use Rattle.stun_endpoints.specs.declared.endpoints.FiveTuple.{FiveTuple}
 use Rattle.turn_table.specs.Events.{Request as TableRequest, asks}
 use Rattle.turn_server.specs.ChannelMessages.{is_channel_byte, data_in}
 use Rattle.turn_server.specs.Comprehended.{is_comprehended}

@@ -5,7 +5,6 @@ mod DatagramsLemmas
 mod RelayedLemmas
 mod StrangersLemmas
 mod ActingLemmas
-mod EndpointsLemmas
 mod AnswersLemmas
 mod SpansLemmas
 mod AskingLemmas

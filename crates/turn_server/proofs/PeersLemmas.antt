@@ -4,7 +4,7 @@ use Rattle.std.specs.List.{list_all}
 use Rattle.stun_grammar.specs.Chains.{Shown}
 use Rattle.stun_types.specs.Iterating.{borrowed}
 use Rattle.turn_attrs.specs.Turn.{XOR_PEER_ADDRESS}
-use Rattle.turn_table.specs.declared.endpoints.Endpoint.{Endpoint}
+use Rattle.stun_endpoints.specs.declared.endpoints.Endpoint.{Endpoint}
 use Rattle.turn_server.specs.Addresses.{is_address, peer_in, peer_read}
 use Rattle.turn_server.specs.Peers.{peer_values, peer_items}
 

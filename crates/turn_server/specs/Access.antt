@@ -10,9 +10,9 @@ use Rattle.stun_authentication.specs.declared.cookie.SecurityFeatures.{SecurityF
 use Rattle.stun_authentication.specs.Asking.{Asked, asked_for, listed}
 use Rattle.stun_authentication.specs.Lookups.{Known}
 use Rattle.stun_authentication.specs.Nonces.{Minting, minted, minting_of, freshness, known_as}
-use Rattle.turn_table.specs.declared.endpoints.Endpoint.{Endpoint}
+use Rattle.stun_endpoints.specs.declared.endpoints.Endpoint.{Endpoint}
 use Rattle.turn_server.specs.declared.access.Access.{Access}
-use Rattle.turn_server.specs.Endpoints.{socket_of}
+use Rattle.stun_endpoints.specs.Conversions.{socket_of}
 
 -- the whole seconds of a time in nanoseconds, which the nonces count
 abbrev pub seconds_of : ℕ → ℕ

@@ -4,8 +4,8 @@ use Rattle.std.specs.Prelude.{ℕ, List, Option, None, Some, Ok}
 use Rattle.stun_grammar.specs.declared.integrity_algorithm.IntegrityAlgorithm.{IntegrityAlgorithm}
 use Rattle.stun_authentication.specs.declared.answer.Refusal.{Refusal}
 use Rattle.stun_authentication.specs.Lookups.{UserKey}
-use Rattle.turn_table.specs.declared.endpoints.Endpoint.{Endpoint}
-use Rattle.turn_table.specs.declared.endpoints.FiveTuple.{FiveTuple}
+use Rattle.stun_endpoints.specs.declared.endpoints.Endpoint.{Endpoint}
+use Rattle.stun_endpoints.specs.declared.endpoints.FiveTuple.{FiveTuple}
 use Rattle.turn_table.specs.Allocations.{Allocation, Setup, State, allocation_of}
 use Rattle.turn_table.specs.Events.{Request, allocate, asks, sends, sends_on, Answer, allocated, Output, answers, to_peer}
 use Rattle.turn_table.specs.Steps.{Step, at, step}

@@ -3,8 +3,8 @@ use Rattle.std.specs.Prelude.{◌≡◌, ℕ, List, Option, IsSomeAnd}
 use Rattle.stun_values.specs.declared.algorithm.PasswordAlgorithmValue.{PasswordAlgorithmValue}
 use Rattle.stun_authentication.specs.Identities.{Who}
 use Rattle.stun_authentication.specs.Lookups.{UserKey}
-use Rattle.turn_table.specs.declared.endpoints.Endpoint.{Endpoint}
-use Rattle.turn_table.specs.declared.endpoints.FiveTuple.{FiveTuple}
+use Rattle.stun_endpoints.specs.declared.endpoints.Endpoint.{Endpoint}
+use Rattle.stun_endpoints.specs.declared.endpoints.FiveTuple.{FiveTuple}
 use Rattle.turn_table.specs.Allocations.{Setup, State, allocation_of}
 use Rattle.turn_table.specs.Events.{Request, asks, Answer, answers}
 use Rattle.turn_table.specs.Steps.{at, step}

@@ -1,20 +1,11 @@
--- The addresses of peers in attributes (RFC 8656, section 18.3), as the table has them.
+-- The addresses of peers in attributes (RFC 8656, section 18.3).
 use Rattle.std.specs.Prelude.{ℕ, ◌/◌, ◌^◌, Bool, not, is_some, List, drop, bit_xor, slice_index, Option, None, Some, option_and_then, if◌then◌else◌}
-use Rattle.std.specs.Net.Socket.{socket_ip, socket_port}
-use Rattle.std.specs.declared.net.socket_addr.SocketAddr.{SocketAddr}
 use Rattle.stun_grammar.specs.Headers.{magic_cookie, id_field}
 use Rattle.stun_grammar.specs.Numbers.{number}
-use Rattle.stun_values.specs.Addresses.{family, octets, address_fault, port_in, xor_bytes, mask}
+use Rattle.stun_values.specs.Addresses.{address_fault, port_in, xor_bytes, mask}
 use Rattle.stun_authentication.specs.Identities.{value_of}
 use Rattle.turn_attrs.specs.Turn.{XOR_PEER_ADDRESS}
-use Rattle.turn_table.specs.declared.endpoints.Endpoint.{Endpoint}
-
--- an address without flow info and scope ID, which may differ between two datagrams of one client
-abbrev pub endpoint_of : SocketAddr → Endpoint
-endpoint_of a = record {
-  ip = record { family = family (socket_ip a); number = number (octets (socket_ip a)) };
-  port = socket_port a;
-}
+use Rattle.stun_endpoints.specs.declared.endpoints.Endpoint.{Endpoint}
 
 -- whether a value is an address: a family of 1 or 2, and the length that it asks for
 abbrev pub is_address : List ℕ → Bool

@@ -4,8 +4,8 @@ use Rattle.std.specs.Option.{option_map, option_map_or}
 use Rattle.stun_grammar.specs.Headers.{id_field}
 use Rattle.stun_authentication.specs.Identities.{shows}
 use Rattle.turn_attrs.specs.Turn.{LIFETIME, REQUESTED_ADDRESS_FAMILY, EVEN_PORT, REQUESTED_TRANSPORT, RESERVATION_TOKEN, ADDITIONAL_ADDRESS_FAMILY}
-use Rattle.turn_table.specs.declared.endpoints.Ip.{Ip}
-use Rattle.turn_table.specs.declared.endpoints.Endpoint.{Endpoint}
+use Rattle.stun_endpoints.specs.declared.endpoints.Ip.{Ip}
+use Rattle.stun_endpoints.specs.declared.endpoints.Endpoint.{Endpoint}
 use Rattle.turn_table.specs.Tunnels.{is_tunnelled}
 use Rattle.turn_server.specs.declared.sockets.Ready.{Ready}
 use Rattle.turn_server.specs.declared.sockets.Sockets.{Sockets}

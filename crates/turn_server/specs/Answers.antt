@@ -24,10 +24,10 @@ use Rattle.stun_types.specs.Replies.{error_attribute, response_type, unknown_typ
 use Rattle.stun_authentication.specs.Policies.{is_fingerprinted}
 use Rattle.stun_authentication.specs.Writing.{no_room, sizes, print_steps, signed_reply, signing_refusal, step_sizes}
 use Rattle.turn_attrs.specs.Turn.{ADDITIONAL_ADDRESS_FAMILY, ADDRESS_ERROR_CODE, LIFETIME, XOR_RELAYED_ADDRESS}
-use Rattle.turn_table.specs.declared.endpoints.Endpoint.{Endpoint}
+use Rattle.stun_endpoints.specs.declared.endpoints.Endpoint.{Endpoint}
 use Rattle.turn_table.specs.Events.{Answer as TableAnswer, allocated, refreshed, done, refused}
 use Rattle.turn_server.specs.Comprehended.{comprehended}
-use Rattle.turn_server.specs.Endpoints.{socket_of}
+use Rattle.stun_endpoints.specs.Conversions.{socket_of}
 
 -- ---- The attributes
 

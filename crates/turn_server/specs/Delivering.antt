@@ -6,8 +6,8 @@ use Rattle.stun_framing.specs.declared.channel_range.ChannelRange.TheVariants.{R
 use Rattle.turn_attrs.specs.Channels.{is_channel_in}
 use Rattle.turn_attrs.specs.ChannelMessages.{channel_message}
 use Rattle.turn_attrs.specs.Heads.{padded_message, data_indication, channel_head_fault, data_head_fault}
-use Rattle.turn_table.specs.declared.endpoints.Endpoint.{Endpoint}
-use Rattle.turn_table.specs.declared.endpoints.FiveTuple.{FiveTuple}
+use Rattle.stun_endpoints.specs.declared.endpoints.Endpoint.{Endpoint}
+use Rattle.stun_endpoints.specs.declared.endpoints.FiveTuple.{FiveTuple}
 use Rattle.turn_table.specs.declared.reply.ToClient.{ToClient}
 use Rattle.turn_table.specs.Allocations.{Setup}
 use Rattle.turn_table.specs.Events.{arrives}
@@ -15,7 +15,7 @@ use Rattle.turn_table.specs.Outputs.{receiving}
 use Rattle.turn_table.specs.Steps.{step}
 use Rattle.turn_server.specs.declared.action.Delivery.{Delivery}
 use Rattle.turn_server.specs.Actions.{Kept}
-use Rattle.turn_server.specs.Endpoints.{socket_of}
+use Rattle.stun_endpoints.specs.Conversions.{socket_of}
 
 -- the length of the greatest message that the transport to a client takes. On a stream it is that of the
 -- greatest message: 20 bytes and the greatest multiple of 4 that a length field can state

@@ -4,7 +4,7 @@ use Rattle.std.specs.Prelude.{ℕ, List, Option, None, if◌then◌else◌}
 use Rattle.std.specs.Option.{option_zip}
 use Rattle.stun_authentication.specs.Identities.{value_of}
 use Rattle.turn_attrs.specs.Turn.{DATA}
-use Rattle.turn_table.specs.declared.endpoints.Endpoint.{Endpoint}
+use Rattle.stun_endpoints.specs.declared.endpoints.Endpoint.{Endpoint}
 use Rattle.turn_server.specs.Addresses.{peer_of}
 use Rattle.turn_server.specs.Comprehended.{is_comprehended}
 

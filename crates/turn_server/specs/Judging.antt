@@ -16,9 +16,9 @@ use Rattle.stun_authentication.specs.Identities.{Who}
 use Rattle.stun_authentication.specs.Lookups.{Known, UserKey}
 use Rattle.stun_authentication.specs.LongTerm.{is_request, long_term, needs_key as needs_key_by}
 use Rattle.turn_attrs.specs.Channels.{channel_field}
-use Rattle.turn_table.specs.declared.endpoints.Ip.{Ip}
-use Rattle.turn_table.specs.declared.endpoints.Endpoint.{Endpoint}
-use Rattle.turn_table.specs.declared.endpoints.FiveTuple.{FiveTuple}
+use Rattle.stun_endpoints.specs.declared.endpoints.Ip.{Ip}
+use Rattle.stun_endpoints.specs.declared.endpoints.Endpoint.{Endpoint}
+use Rattle.stun_endpoints.specs.declared.endpoints.FiveTuple.{FiveTuple}
 use Rattle.turn_table.specs.Events.{Event, asks, sends, sends_on}
 use Rattle.turn_server.specs.declared.sockets.Sockets.{Sockets}
 use Rattle.turn_server.specs.ChannelMessages.{is_channel_byte, data_in}

@@ -9,7 +9,6 @@ pub mod ChannelMessages
 pub mod Comprehended
 pub mod Datagrams
 pub mod Delivering
-pub mod Endpoints
 pub mod Indications
 pub mod Judging
 pub mod Judgments

@@ -5,7 +5,7 @@ use Rattle.stun_grammar.specs.Headers.{id_field}
 use Rattle.stun_grammar.specs.Chains.{Shown}
 use Rattle.stun_grammar.specs.Showing.{shown}
 use Rattle.turn_attrs.specs.Turn.{XOR_PEER_ADDRESS}
-use Rattle.turn_table.specs.declared.endpoints.Endpoint.{Endpoint}
+use Rattle.stun_endpoints.specs.declared.endpoints.Endpoint.{Endpoint}
 use Rattle.turn_server.specs.Addresses.{is_address, peer_in}
 
 -- of some attributes, the values of those that name a peer

@@ -6,8 +6,8 @@ use Rattle.stun_grammar.specs.Numbers.{number}
 use Rattle.stun_authentication.specs.Identities.{value_of}
 use Rattle.turn_attrs.specs.Turn.{CHANNEL_NUMBER, LIFETIME, REQUESTED_ADDRESS_FAMILY}
 use Rattle.turn_table.specs.Events.{Request as TableRequest, refresh, permit, bind, unfit}
-use Rattle.turn_table.specs.declared.endpoints.Ip.{Ip}
-use Rattle.turn_table.specs.declared.endpoints.Endpoint.{Endpoint}
+use Rattle.stun_endpoints.specs.declared.endpoints.Ip.{Ip}
+use Rattle.stun_endpoints.specs.declared.endpoints.Endpoint.{Endpoint}
 use Rattle.turn_server.specs.declared.sockets.Sockets.{Sockets}
 use Rattle.turn_server.specs.Addresses.{peer_of}
 use Rattle.turn_server.specs.Allocating.{allocate_of}

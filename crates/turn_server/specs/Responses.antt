@@ -11,7 +11,7 @@ use Rattle.stun_authentication.specs.Refusing.{refusal_of, refusal_sizes}
 use Rattle.stun_authentication.specs.Writing.{no_room}
 use Rattle.stun_server.specs.InSlice.{written_in, slice_after}
 use Rattle.stun_server.specs.Reply.{binding_reply, reply_code}
-use Rattle.turn_table.specs.declared.endpoints.Endpoint.{Endpoint}
+use Rattle.stun_endpoints.specs.declared.endpoints.Endpoint.{Endpoint}
 use Rattle.turn_table.specs.Events.{Answer, allocated, refused}
 use Rattle.turn_server.specs.declared.access.Access.{Access}
 use Rattle.turn_server.specs.declared.action.Opened.{Opened}
@@ -19,7 +19,7 @@ use Rattle.turn_server.specs.declared.action.Response.{Response}
 use Rattle.turn_server.specs.Access.{asked_by, software_in}
 use Rattle.turn_server.specs.Acting.{Act, binds, refuses, refuses_types, responds}
 use Rattle.turn_server.specs.Answers.{answer_text, answer_refusal, unknown_text, unknown_refusal}
-use Rattle.turn_server.specs.Endpoints.{socket_of}
+use Rattle.stun_endpoints.specs.Conversions.{socket_of}
 
 -- a response: its text, why it isn't written, whether writing it takes memory, and the code of an error
 -- response

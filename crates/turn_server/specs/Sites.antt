@@ -4,7 +4,7 @@ use Rattle.stun_attributes.specs.Texts.{text_bytes}
 use Rattle.stun_values.specs.declared.algorithm.PasswordAlgorithmValue.{PasswordAlgorithmValue}
 use Rattle.stun_authentication.specs.Identities.{Who}
 use Rattle.stun_authentication.specs.Lookups.{UserKey}
-use Rattle.turn_table.specs.declared.endpoints.Endpoint.{Endpoint}
+use Rattle.stun_endpoints.specs.declared.endpoints.Endpoint.{Endpoint}
 use Rattle.turn_server.specs.declared.access.Access.{Access}
 use Rattle.turn_server.specs.declared.sockets.Sockets.{Sockets}
 use Rattle.turn_server.specs.Access.{nonces_at}

@@ -1,6 +1,6 @@
 -- What a request asks for, before a socket has a number.
 use Rattle.std.specs.Prelude.{ℕ, Option, Result}
-use Rattle.turn_table.specs.declared.endpoints.Endpoint.{Endpoint}
+use Rattle.stun_endpoints.specs.declared.endpoints.Endpoint.{Endpoint}
 use Rattle.turn_table.specs.Allocates.{offered}
 use Rattle.turn_table.specs.Events.{Request, allocate}
 

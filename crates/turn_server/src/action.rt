@@ -1,7 +1,7 @@
 //! What a program does for a datagram.
 
+use stun_endpoints::{Endpoint, FiveTuple};
 use stun_types::message::StunWriteError;
-use turn_table::{Endpoint, FiveTuple};
 
 /// What a program does for a client's datagram.
 #[derive(Clone, Copy, Debug, PartialEq, Eq)]

@@ -18,7 +18,8 @@ ghost use Rattle.turn_table.specs.Events.{allocated};
 ghost use Rattle.turn_table.specs.Outputs.{answer_of};
 ghost use Rattle.turn_server.specs.Answers.{answer_class, address_attribute, lifetime_attribute, allocation_attributes, no_ipv6, family_left, answer_content, software_attributes, answer_attributes, list_attribute};
 
-use crate::socket_of;
+use std::net::SocketAddr;
+use stun_endpoints::Endpoint;
 use stun_types::attribute::{
     AttributeStaticType, AttributeType, ErrorCode, Software, UnknownAttributes, XorMappedAddress,
 };
@@ -26,7 +27,7 @@ use stun_types::message::{Message, StunWriteError, TransactionId};
 use stun_types::prelude::*;
 use turn_attrs::attribute_types::{ADDITIONAL_ADDRESS_FAMILY, ADDRESS_ERROR_CODE};
 use turn_attrs::{Lifetime, XorRelayedAddress};
-use turn_table::{Endpoint, Reply};
+use turn_table::Reply;
 
 /// The value of an ADDRESS-ERROR-CODE for IPv6: the family, a zero, 440 and its reason phrase.
 const NO_IPV6: &[u8] = b"\x02\x00\x04\x28Address Family Not Supported";
@@ -115,7 +116,7 @@ fn push_list<B: MessageWrite>(
     add_one(attribute, write)
 }
 
-/// Adds an XOR-RELAYED-ADDRESS with an address of the table.
+/// Adds an XOR-RELAYED-ADDRESS with this address.
 fn add_relayed<B: MessageWrite>(
     relayed: Endpoint,
     id: TransactionId,
@@ -124,10 +125,13 @@ fn add_relayed<B: MessageWrite>(
     ensures { Lengthens result (B.state write.old) (B.state write.new)
         (address_attribute XOR_RELAYED_ADDRESS id relayed ∷ []) }
 {
-    push_relayed(&XorRelayedAddress::new(socket_of(relayed), id), write)
+    push_relayed(
+        &XorRelayedAddress::new(SocketAddr::from(relayed), id),
+        write,
+    )
 }
 
-/// Adds an XOR-MAPPED-ADDRESS with an address of the table.
+/// Adds an XOR-MAPPED-ADDRESS with this address.
 fn add_mapped<B: MessageWrite>(
     client: Endpoint,
     id: TransactionId,
@@ -136,7 +140,7 @@ fn add_mapped<B: MessageWrite>(
     ensures { Lengthens result (B.state write.old) (B.state write.new)
         (address_attribute XOR_MAPPED_ADDRESS id client ∷ []) }
 {
-    push_mapped(&XorMappedAddress::new(socket_of(client), id), write)
+    push_mapped(&XorMappedAddress::new(SocketAddr::from(client), id), write)
 }
 
 /// Adds a LIFETIME with these seconds.

@@ -11,6 +11,7 @@ ghost use Rattle.turn_server.specs.Values.{number_in};
 
 use crate::values::{byte_in, fixed_value, number_in};
 use crate::{Ready, Sockets};
+use stun_endpoints::{Endpoint, Ip};
 use stun_types::attribute::ErrorCode;
 use stun_types::message::Message;
 use turn_attrs::attribute_types::{
@@ -20,7 +21,7 @@ use turn_attrs::attribute_types::{
 use turn_attrs::error_codes::{
     ADDRESS_FAMILY_NOT_SUPPORTED, FORBIDDEN, INSUFFICIENT_CAPACITY, UNSUPPORTED_TRANSPORT_PROTOCOL,
 };
-use turn_table::{Endpoint, Ip, is_tunnelled};
+use turn_table::is_tunnelled;
 
 /// The number of UDP as a protocol.
 const UDP: u8 = 17;

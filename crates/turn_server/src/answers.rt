@@ -21,10 +21,11 @@ ghost use Rattle.turn_server.specs.Unfinished.{WritesUnfinished};
 use crate::adding::{add_refusal, add_success};
 use std::alloc::Global;
 use stun_authentication::Accepted;
+use stun_endpoints::Endpoint;
 use stun_types::attribute::{AttributeStaticType, ErrorCode, Fingerprint, Software};
 use stun_types::message::{Message, StunWriteError};
 use stun_types::prelude::*;
-use turn_table::{Endpoint, Reply};
+use turn_table::Reply;
 
 /// The ERROR-CODE of a code, with its reason phrase.
 pub(crate) fn error_of(alloc: Global, code: u16) -> Result<ErrorCode, StunWriteError>

@@ -3,14 +3,15 @@
 ghost use Rattle.std.specs.Prelude.{◌≡◌, length};
 ghost use Rattle.turn_attrs.specs.Heads.{data_indication};
 ghost use Rattle.turn_server.specs.Delivering.{greatest_to, message_on, message_by, has_channel_head, has_data_head, has_head, WritesHead, DeliversTo};
-ghost use Rattle.turn_server.specs.Endpoints.{socket_of};
+ghost use Rattle.stun_endpoints.specs.Conversions.{socket_of};
 
-use crate::{Delivery, socket_of};
+use crate::Delivery;
 use std::net::SocketAddr;
+use stun_endpoints::{Endpoint, FiveTuple};
 use stun_framing::ChannelRange;
 use stun_types::message::{GREATEST_MESSAGE, TransactionId};
 use turn_attrs::{Channel, write_channel_head, write_data_head};
-use turn_table::{Endpoint, FiveTuple, ToClient};
+use turn_table::ToClient;
 
 /// The protocol number of UDP.
 const UDP: u8 = 17;
@@ -90,7 +91,7 @@ pub(crate) fn deliver(
 ) -> Option<Delivery>
     ensures { DeliversTo to.now length id (socket_of peer) before.old before.new result }
 {
-    let (head_length, padding) = head_for(to, id, socket_of(peer), length, before)?;
+    let (head_length, padding) = head_for(to, id, SocketAddr::from(peer), length, before)?;
     Some(Delivery {
         to: to.tuple,
         head_length,

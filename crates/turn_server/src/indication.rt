@@ -11,10 +11,10 @@ ghost use Rattle.turn_server.specs.Spans.{StandsAt};
 use crate::Span;
 use crate::addresses::peer_of;
 use crate::comprehended::is_comprehended;
+use stun_endpoints::Endpoint;
 use stun_types::attribute::AttributeType;
 use stun_types::message::Message;
 use turn_attrs::attribute_types::DATA;
-use turn_table::Endpoint;
 
 /// Each number in a slice is below 256. The function does nothing: its contract is the law.
 fn are_bytes(bytes: &[u8])

@@ -8,8 +8,9 @@ ghost use Rattle.stun_types.specs.Message.{message_bytes};
 
 use crate::Span;
 use stun_authentication::{Accepted, Refusal};
+use stun_endpoints::Endpoint;
 use stun_types::message::Message;
-use turn_table::{Endpoint, UserId};
+use turn_table::UserId;
 
 /// A request that was read.
 #[derive(Drop)]

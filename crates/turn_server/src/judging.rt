@@ -18,7 +18,7 @@ ghost use Rattle.turn_server.specs.Access.{nonces_at};
 ghost use Rattle.turn_server.specs.Judging.{Site as Judging, channel_message, indicated, accepted_as, decided_as, requested, message, request_needs_key, message_needs_key, needs_key, judge};
 ghost use Rattle.turn_server.specs.Reporting.{Signs, Tells};
 ghost use Rattle.turn_server.specs.Sites.{site_of};
-ghost use Rattle.turn_table.specs.declared.endpoints.Endpoint.{Endpoint};
+ghost use Rattle.stun_endpoints.specs.declared.endpoints.Endpoint.{Endpoint};
 
 use crate::accounts::user_of;
 use crate::channel_message::{is_channel_byte, read_channel_data};
@@ -26,15 +26,16 @@ use crate::comprehended::is_comprehended;
 use crate::indication::read_send;
 use crate::judged::{Asking, Judged};
 use crate::request::asks_table;
-use crate::{Access, Site, socket_of};
+use crate::{Access, Site};
 use std::alloc::{AllocError, Global};
+use std::net::SocketAddr;
 use stun_authentication::{
     Accepted, Authentication, LongTermKeys, Nonces, Policy, authenticate_long_term,
     needs_key as needs_key_by,
 };
+use stun_endpoints::Endpoint;
 use stun_types::message::{BINDING, Message, MessageClass, MessageHeader, Method};
 use turn_attrs::methods::SEND;
-use turn_table::Endpoint;
 
 /// What comes of a datagram that begins as a ChannelData message.
 #[tactic(auto, using(crate::proofs::SpansLemmas::on_channel))]
@@ -127,7 +128,7 @@ fn judge_request<'d, K: LongTermKeys>(
         return Ok(Judged::Dropped);
     }
     let access = site.access;
-    let nonces = access.nonces_of(now, socket_of(client));
+    let nonces = access.nonces_of(now, SocketAddr::from(client));
     let authentication = authenticate_long_term(
         alloc,
         request,

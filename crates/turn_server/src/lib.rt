@@ -12,7 +12,6 @@ mod answers;
 mod channel_message;
 mod comprehended;
 mod delivering;
-mod endpoints;
 mod indication;
 mod judged;
 mod judging;
@@ -29,10 +28,8 @@ mod values;
 pub use access::Access;
 pub use accounts::user_of;
 pub use action::{Action, Delivery, Opened, Response, Span};
-pub use addresses::endpoint_of;
 pub use answers::codes_are_written;
 pub use comprehended::COMPREHENDED;
-pub use endpoints::{socket_of, sockets_are_of_endpoints};
 pub use laws::{
     clients_do_not_meet, datagrams_are_warranted, judgments_are_so, permitted_datagrams_pass,
     requests_are_authentic, strangers_change_nothing,

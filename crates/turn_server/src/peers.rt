@@ -8,12 +8,12 @@ ghost use Rattle.turn_server.specs.Requests.{peers_max, permit_of};
 
 use crate::addresses::read_peer;
 use arrayvec::ArrayVec;
+use stun_endpoints::Endpoint;
 use stun_types::attribute::ErrorCode;
 use stun_types::message::Message;
 use stun_values::read_address;
 use turn_attrs::attribute_types::XOR_PEER_ADDRESS;
 use turn_attrs::error_codes::INSUFFICIENT_CAPACITY;
-use turn_table::Endpoint;
 
 /// The most peers that a CreatePermission request may name: one that names more is refused with 508.
 pub const PEERS: usize = 64;

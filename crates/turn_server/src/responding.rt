@@ -21,17 +21,18 @@ ghost use Rattle.turn_server.specs.Responses.{IsWritten, IsResponse, binding_owe
 use crate::access::{Access, seconds};
 use crate::answers::write_answer;
 use crate::unknown::write_unknown;
-use crate::{Opened, Response, socket_of};
+use crate::{Opened, Response};
 use std::alloc::Global;
 use std::net::SocketAddr;
 use stun_authentication::{
     Accepted, Challenge, ChallengeError, Refusal, nonces_are_texts, refuse_long_term,
 };
+use stun_endpoints::Endpoint;
 use stun_server::Reply as BindingReply;
 use stun_types::attribute::ErrorCode;
 use stun_types::message::{Message, MessageWriteVec, StunWriteError};
 use stun_types::prelude::*;
-use turn_table::{Endpoint, Reply};
+use turn_table::Reply;
 
 /// Copies a message to the start of a buffer, if that has room for it, and returns its length.
 fn copied(message: &[u8], buffer: &mut [u8]) -> Result<usize, StunWriteError>
@@ -53,7 +54,7 @@ pub(crate) fn bind(request: &Message<'_>, client: Endpoint, buffer: &mut [u8]) -
     ensures { IsResponse (binding_owed client (message_bytes request.now)) None buffer.old buffer.new
         result }
 {
-    let reply = BindingReply::to(*request, socket_of(client));
+    let reply = BindingReply::to(*request, SocketAddr::from(client));
     Response {
         written: reply.write_into(buffer),
         code: reply.code(),
@@ -128,7 +129,7 @@ pub(crate) fn refuse(
     ensures { IsResponse (refusal_owed access.now now client (message_bytes request.now) refusal) None
         buffer.old buffer.new result }
 {
-    let client = socket_of(client);
+    let client = SocketAddr::from(client);
     Response {
         written: write_refusal(alloc, access, now, client, request, refusal, buffer),
         code: Some(refusal.code()),

@@ -4,8 +4,8 @@ ghost use Rattle.std.specs.Prelude.{◌≡◌, ◌≤◌, ℕ, List, Bool, Optio
 ghost use Rattle.stun_values.specs.declared.algorithm.PasswordAlgorithmValue.{PasswordAlgorithmValue};
 ghost use Rattle.stun_authentication.specs.Identities.{Who};
 ghost use Rattle.stun_authentication.specs.Lookups.{UserKey};
-ghost use Rattle.turn_table.specs.declared.endpoints.Ip.{Ip};
-ghost use Rattle.turn_table.specs.declared.endpoints.Endpoint.{Endpoint};
+ghost use Rattle.stun_endpoints.specs.declared.endpoints.Ip.{Ip};
+ghost use Rattle.stun_endpoints.specs.declared.endpoints.Endpoint.{Endpoint};
 ghost use Rattle.turn_table.specs.Outputs.{setup_of, answer_of, opened_in, sending};
 ghost use Rattle.turn_table.specs.Allocates.{offered};
 ghost use Rattle.turn_table.specs.Events.{allocate};
@@ -37,15 +37,15 @@ use crate::judging::{judge, needs_key};
 use crate::peers::peers_of;
 use crate::request::read_request;
 use crate::responding::{answer, bind, refuse, refuse_types};
-use crate::{Access, Action, Delivery, Site, Sockets, Span, socket_of};
+use crate::{Access, Action, Delivery, Site, Sockets, Span};
 use std::alloc::{AllocError, Global};
 use std::marker::Model;
+use std::net::SocketAddr;
 use stun_authentication::LongTermKeys;
+use stun_endpoints::{Endpoint, FiveTuple};
 use stun_types::message::{Message, TransactionId};
 use turn_attrs::methods::{ALLOCATE, CREATE_PERMISSION};
-use turn_table::{
-    Endpoint, FiveTuple, Limits, PeerPolicy, Reply, Request, ToPeer, TurnTable, UserId,
-};
+use turn_table::{Limits, PeerPolicy, Reply, Request, ToPeer, TurnTable, UserId};
 
 /// Data that goes to a peer, or is dropped.
 fn relayed(to: Option<ToPeer>, span: Span) -> Action
@@ -80,14 +80,15 @@ fn relayed(to: Option<ToPeer>, span: Span) -> Action
 /// use std::net::SocketAddr;
 /// use stun_authentication::{Logins, NonceMaker, Policy, Retry, SecurityFeatures};
 /// use stun_authentication::{answer_challenge, challenge_of};
+/// use stun_endpoints::{Endpoint, FiveTuple};
 /// use stun_types::attribute::{PasswordAlgorithmValue, Realm};
 /// use stun_types::message::{IntegrityKey, LongTermCredentials, Message, MessageClass, MessageType};
 /// use stun_types::message::{MessageWriteVec, Method, StunWriteError, TransactionId};
 /// use stun_types::prelude::*;
 /// use turn_attrs::{RequestedTransport, XorPeerAddress, methods};
-/// use turn_server::{Access, Action, Ready, Site, Sockets, TurnServer, endpoint_of, socket_of};
+/// use turn_server::{Access, Action, Ready, Site, Sockets, TurnServer};
 /// use turn_table::peers::Peers;
-/// use turn_table::{FiveTuple, Limits};
+/// use turn_table::Limits;
 ///
 /// // A client's request with an attribute, which answers a challenge.
 /// fn signed(
@@ -114,7 +115,7 @@ fn relayed(to: Option<ToPeer>, span: Span) -> Action
 ///     policy: Policy::default(),
 ///     software: None,
 /// };
-/// let relayed = endpoint_of("203.0.113.1:50000".parse()?);
+/// let relayed = Endpoint::from("203.0.113.1:50000".parse::<SocketAddr>()?);
 /// let ready = Ready { any: Some(relayed), even: Some(relayed) };
 /// let site = Site { access: &access, sockets: Sockets { ipv4: Some(ready), ipv6: None } };
 /// let (name, password) = (String::from_str(alloc, "alice")?, String::from_str(alloc, "wonderland")?);
@@ -122,8 +123,8 @@ fn relayed(to: Option<ToPeer>, span: Span) -> Action
 /// let keys = Logins::new(&users);
 /// let own: SocketAddr = "203.0.113.1:3478".parse()?;
 /// let peers = Peers { denied: &[], allowed: &[], listening: &[own] };
-/// let client = endpoint_of("192.0.2.1:32853".parse()?);
-/// let from = FiveTuple { client, server: endpoint_of(own), transport: 17 };
+/// let client = Endpoint::from("192.0.2.1:32853".parse::<SocketAddr>()?);
+/// let from = FiveTuple { client, server: Endpoint::from(own), transport: 17 };
 /// let mut buffer = [0; 1500];
 ///
 /// // An Allocate request that isn't signed, after a second: the response is a 401.
@@ -167,7 +168,7 @@ fn relayed(to: Option<ToPeer>, span: Span) -> Action
 /// let Action::ToPeer { relay, peer: to, data } = action else {
 ///     return Err("no data")?;
 /// };
-/// assert!(rt; sockets.contains_key(&relay) && socket_of(to) == peer);
+/// assert!(rt; sockets.contains_key(&relay) && SocketAddr::from(to) == peer);
 /// assert_eq!(rt; data.of(sent), Some(b"hello".as_slice()));
 ///
 /// // The peer answers `hi`, at that socket: the client gets it in a Data indication.
@@ -176,7 +177,7 @@ fn relayed(to: Option<ToPeer>, span: Span) -> Action
 /// let (before, _) = buffer.split_at_mut(48);
 /// let id = TransactionId::from(4);
 /// let delivery = server
-///     .on_peer_datagram(now, opened.number, endpoint_of(peer), 2, id, before)
+///     .on_peer_datagram(now, opened.number, Endpoint::from(peer), 2, id, before)
 ///     .ok_or("no client")?;
 /// assert!(rt; delivery.to == from);
 /// let indication = b"\x00\x17\x00\x14\x21\x12\xA4\x42\0\0\0\0\0\0\0\0\0\0\0\x04\
@@ -306,7 +307,7 @@ impl<const P: usize, const C: usize> TurnServer<P, C> {
             access.now.policy (nonces_at client now access.now) datagram.now }
     {
         let old_channels = self.table.limits().old_channels;
-        let nonces = access.nonces_of(now, socket_of(client));
+        let nonces = access.nonces_of(now, SocketAddr::from(client));
         needs_key(datagram, old_channels, access.policy, &nonces)
     }
 

@@ -1,6 +1,6 @@
 //! The sockets that the caller has ready for Allocate requests.
 
-use turn_table::Endpoint;
+use stun_endpoints::Endpoint;
 
 /// The relayed transport addresses that the caller offers in one address family: each is that of a
 /// socket that no allocation has. One socket with an even port may be both. `None`: the request is

@@ -4,7 +4,8 @@ use Rattle.std.specs.Prelude.{max, nat_lt}
 use Rattle.std.specs.List.{list_any}
 use Rattle.std.specs.Option.{option_map_or}
 use Rattle.std.proofs.lemmas.Bool.{cond-true, cond-false, lt-ltb, or_left}
-use Rattle.turn_table.specs.Endpoints.{Endpoint, FiveTuple}
+use Rattle.stun_endpoints.specs.declared.endpoints.Endpoint.{Endpoint}
+use Rattle.stun_endpoints.specs.declared.endpoints.FiveTuple.{FiveTuple}
 use Rattle.turn_table.specs.Allocations.{seconds, Allocation, Setup, State, allocation_of}
 use Rattle.turn_table.specs.Events.{Offer, allocate, answers, allocated}
 use Rattle.turn_table.specs.Outputs.{answer_of}

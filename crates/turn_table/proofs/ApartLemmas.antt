@@ -4,7 +4,9 @@ use Rattle.std.specs.List.{list_any}
 use Rattle.std.specs.Prelude.{◌==◌, ◌&&◌, nat_lt, max, count_by}
 use Rattle.std.specs.Option.{option_map_or, option_or}
 use Rattle.std.proofs.lemmas.Bool.{cond_both, cond-true, cond-false, and_parts, or_parts, or_right, not-false, lt-ltb, false≢true}
-use Rattle.turn_table.specs.Endpoints.{Endpoint, FiveTuple, is_tuple}
+use Rattle.stun_endpoints.specs.declared.endpoints.Endpoint.{Endpoint}
+use Rattle.stun_endpoints.specs.declared.endpoints.FiveTuple.{FiveTuple}
+use Rattle.stun_endpoints.specs.Endpoints.{is_tuple}
 use Rattle.turn_table.specs.Allocations.{seconds, Channel, Allocation, Setup, State, is_live, is_of, is_at, allocation_of, is_permitted, channel_by_peer}
 use Rattle.turn_table.specs.Events.{Offer, Request, allocate, refresh, permit, bind, unfit, Event, asks, sends, sends_on, arrives, polls, Answer, allocated, refreshed, done, Output, answers, to_client, to_client_on, nothing}
 use Rattle.turn_table.specs.Relays.{sent, sent_on, received}
@@ -12,7 +14,7 @@ use Rattle.turn_table.specs.Rows.{is_users, uses_relay, room_fault, has_quota, a
 use Rattle.turn_table.specs.Steps.{Step, refreshed_for, at, opened, changed, lasting, lasting_for, lasting_state, permitting, binding, refuses, allocates_again, allocates_first, allocates_new, fulfils_for, serves, happens, is_over}
 use Rattle.turn_table.specs.Runs.{Timed, Happening, run, happening, history}
 use Rattle.turn_table.specs.Apart.{is_own, is_others, wish_of, own_event, alone, seen, Sight, sight, all_sights, sights}
-use Rattle.turn_table.proofs.AddressesLemmas.{tuple_same, tuple_is_itself}
+use Rattle.stun_endpoints.proofs.AddressesLemmas.{tuple_same, tuple_is_itself}
 use Rattle.turn_table.proofs.ListsLemmas.{fails}
 use Rattle.turn_table.proofs.FindsLemmas.{find_filter, left_false}
 use Rattle.turn_table.proofs.CasesLemmas.{fulfil_cases, allocate_cases, apart}

@@ -4,11 +4,13 @@ use Rattle.std.proofs.Common.{◌≡◌, ℕ, zero, suc, ◌+◌, ◌<◌, ◌�
 use Rattle.std.specs.Prelude.{◌&&◌, ◌||◌, nat_lt}
 use Rattle.std.specs.List.{list_any, AllByRecursion}
 use Rattle.std.proofs.lemmas.Bool.{cond_both, cond-true, cond-false, and_from, and_parts, false≢true, lt-ltb}
-use Rattle.turn_table.specs.Endpoints.{Ip, Endpoint, is_ip}
+use Rattle.stun_endpoints.specs.declared.endpoints.Ip.{Ip}
+use Rattle.stun_endpoints.specs.declared.endpoints.Endpoint.{Endpoint}
+use Rattle.stun_endpoints.specs.Endpoints.{is_ip}
 use Rattle.turn_table.specs.Allocations.{seconds, Permission}
 use Rattle.turn_table.specs.Rows.{is_other_permission, with_permission, with_permissions}
 use Rattle.turn_table.specs.Slots.{AreDistinct}
-use Rattle.turn_table.proofs.AddressesLemmas.{ip_same}
+use Rattle.stun_endpoints.proofs.AddressesLemmas.{ip_same}
 use Rattle.turn_table.proofs.FilteredLemmas.{any_filter, neither}
 
 abbrev is_of_ip : Ip → Permission → Bool

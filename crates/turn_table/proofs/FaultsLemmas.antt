@@ -3,7 +3,7 @@ use Rattle.std.proofs.Common.{◌≡◌, ℕ, ◌<◌, ◌≤◌, Bool, true, fa
 use Rattle.std.specs.Option.{option_or}
 use Rattle.std.specs.Prelude.{nat_lt, if◌then◌else◌}
 use Rattle.std.proofs.lemmas.Bool.{cond-true, cond-false, lt-ltb}
-use Rattle.turn_table.specs.Endpoints.{Endpoint}
+use Rattle.stun_endpoints.specs.declared.endpoints.Endpoint.{Endpoint}
 use Rattle.turn_table.specs.Allocations.{Permission, Channel, Allocation, Setup}
 use Rattle.turn_table.specs.Rows.{with_permissions, with_channel, number_fault, binding_fault, family_fault, port_fault, granting_fault, permit_fault, channels_fault, bind_fault}
 use Rattle.turn_table.specs.Steps.{permitting, binding}

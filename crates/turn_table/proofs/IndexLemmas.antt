@@ -2,10 +2,11 @@
 use Rattle.std.proofs.Common.{◌≡◌, ℕ, ◌+◌, ◌<◌, true, false, List, length, Option, None, Some, sym, ap, subst, ◌∙◌, eqb-true, arith}
 use Rattle.std.specs.Prelude.{MatchOption, ◌==◌}
 use Rattle.std.proofs.lemmas.Bool.{cond_both, cond-true, cond-false, lt-ltb, ltb-true, eqb-false}
-use Rattle.turn_table.specs.Endpoints.{FiveTuple, is_tuple}
+use Rattle.stun_endpoints.specs.declared.endpoints.FiveTuple.{FiveTuple}
+use Rattle.stun_endpoints.specs.Endpoints.{is_tuple}
 use Rattle.turn_table.specs.Allocations.{Allocation, is_live}
 use Rattle.turn_table.specs.Slots.{in_slot, named, if_live, Finds, IsInside, Renames}
-use Rattle.turn_table.proofs.AddressesLemmas.{tuple_same, tuple_is_itself}
+use Rattle.stun_endpoints.proofs.AddressesLemmas.{tuple_same, tuple_is_itself}
 use Rattle.turn_table.proofs.SlotsLemmas.{not_true, some_is}
 
 -- each live allocation of the first slots is named

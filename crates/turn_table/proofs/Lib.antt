@@ -1,7 +1,5 @@
-mod Computing
 mod LongestLemmas
 mod ListsLemmas
-pub mod AddressesLemmas
 mod Backed
 mod ServingLemmas
 mod RightLemmas

@@ -6,11 +6,12 @@ use Rattle.std.specs.Result.{OnOk, is_ok}
 use Rattle.std.proofs.lemmas.Option.{none-some}
 use Rattle.std.proofs.lemmas.Bool.{cond_both, cond-true, cond-false, and_from, lt-ltb}
 use Rattle.std.proofs.lemmas.List.{get_or-set_same, get_or-set_other}
-use Rattle.turn_table.specs.Endpoints.{FiveTuple, is_tuple}
+use Rattle.stun_endpoints.specs.declared.endpoints.FiveTuple.{FiveTuple}
+use Rattle.stun_endpoints.specs.Endpoints.{is_tuple}
 use Rattle.turn_table.specs.Allocations.{seconds, Allocation, is_live, is_of}
 use Rattle.turn_table.specs.Rows.{uses_relay}
 use Rattle.turn_table.specs.Slots.{in_slot, put_first, listed, Has, named, places, Finds, ArePlaced, IsIndex, AreCounted, IsTable, AreFree}
-use Rattle.turn_table.proofs.AddressesLemmas.{tuple_is_itself}
+use Rattle.stun_endpoints.proofs.AddressesLemmas.{tuple_is_itself}
 use Rattle.turn_table.proofs.FilteredLemmas.{neither}
 use Rattle.turn_table.proofs.SlotsLemmas.{not_true, some_is, named_at, only_one, find_unique}
 use Rattle.turn_table.proofs.ServedLemmas.{in_set}

@@ -5,7 +5,8 @@ use Rattle.std.specs.Option.{option_map_or}
 use Rattle.std.proofs.lemmas.Option.{none-some}
 use Rattle.std.proofs.lemmas.Bool.{cond_both, cond-true, cond-false, and_parts, and_from, eqb-false}
 use Rattle.std.proofs.lemmas.List.{get_or-set_same, get_or-set_other, set-get_or}
-use Rattle.turn_table.specs.Endpoints.{FiveTuple, is_tuple}
+use Rattle.stun_endpoints.specs.declared.endpoints.FiveTuple.{FiveTuple}
+use Rattle.stun_endpoints.specs.Endpoints.{is_tuple}
 use Rattle.turn_table.specs.Allocations.{seconds, Allocation, Setup, State, is_live, is_of}
 use Rattle.turn_table.specs.Events.{Request, allocate, refresh, permit, bind, unfit, Answer, refused, answers}
 use Rattle.turn_table.specs.Rows.{owner_fault}

@@ -6,11 +6,12 @@ use Rattle.std.proofs.lemmas.Bool.{cond_both, cond-true, cond-false, and_parts, 
 use Rattle.std.proofs.lemmas.List.{get_or-set_same, get_or-set_other}
 use Rattle.std.proofs.lemmas.List.Sums.{length-filter}
 use Rattle.turn_table.specs.Rows.{is_users}
-use Rattle.turn_table.specs.Endpoints.{FiveTuple, is_tuple}
+use Rattle.stun_endpoints.specs.declared.endpoints.FiveTuple.{FiveTuple}
+use Rattle.stun_endpoints.specs.Endpoints.{is_tuple}
 use Rattle.turn_table.specs.Allocations.{Allocation, is_live, is_of, is_at}
 use Rattle.turn_table.specs.Steps.{changed_first}
 use Rattle.turn_table.specs.Slots.{in_slot, users_at, put_first, listed, Has, AreApart, if_of, if_at, named, at_place, places, Finds, ArePlaced, AreCounted}
-use Rattle.turn_table.proofs.AddressesLemmas.{tuple_same}
+use Rattle.stun_endpoints.proofs.AddressesLemmas.{tuple_same}
 
 pub not_true : (v : Bool) → (v ≡ true → ⊥) → v ≡ false
 not_true true isnt = absurd (isnt refl)

@@ -3,7 +3,7 @@ use Rattle.std.proofs.Common.{◌≡◌, ℕ, ◌+◌, Bool, false, not, ◌||�
 use Rattle.std.specs.List.{list_any}
 use Rattle.std.specs.Prelude.{◌==◌, ◌&&◌, nat_lt, count_by}
 use Rattle.std.proofs.lemmas.Bool.{cond_both, or_parts}
-use Rattle.turn_table.specs.Endpoints.{FiveTuple}
+use Rattle.stun_endpoints.specs.declared.endpoints.FiveTuple.{FiveTuple}
 use Rattle.turn_table.specs.Allocations.{seconds, Allocation, Setup, State, is_of, allocation_of}
 use Rattle.turn_table.specs.Events.{Offer, Request, allocate, refresh, permit, bind, unfit, Event, asks, sends, sends_on, arrives, polls, refreshed, done}
 use Rattle.turn_table.specs.Rows.{is_users, uses_relay, room_fault, allocate_fault, refresh_fault, permit_fault, bind_fault}

@@ -4,10 +4,12 @@ use Rattle.std.specs.List.{list_any}
 use Rattle.std.specs.Prelude.{◌&&◌, nat_lt}
 use Rattle.std.proofs.lemmas.Bool.{cond_both, and_parts, and_from, or_left, or_right, or_cases, lt-ltb, false≢true}
 use Rattle.std.proofs.lemmas.Map.Views.{any-filter_same}
-use Rattle.turn_table.specs.Endpoints.{Ip, Endpoint, is_ip}
+use Rattle.stun_endpoints.specs.declared.endpoints.Ip.{Ip}
+use Rattle.stun_endpoints.specs.declared.endpoints.Endpoint.{Endpoint}
+use Rattle.stun_endpoints.specs.Endpoints.{is_ip}
 use Rattle.turn_table.specs.Allocations.{seconds, Permission, is_permission}
 use Rattle.turn_table.specs.Rows.{is_other_permission, with_permission, with_permissions}
-use Rattle.turn_table.proofs.AddressesLemmas.{ip_same}
+use Rattle.stun_endpoints.proofs.AddressesLemmas.{ip_same}
 
 -- ---- Permissions that stay
 

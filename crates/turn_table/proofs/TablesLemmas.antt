@@ -1,6 +1,6 @@
 -- A table as time passes.
 use Rattle.std.proofs.Common.{ℕ, ◌<◌, ◌≤◌, ◌^◌, List, Option, arith}
-use Rattle.turn_table.specs.Endpoints.{FiveTuple}
+use Rattle.stun_endpoints.specs.declared.endpoints.FiveTuple.{FiveTuple}
 use Rattle.turn_table.specs.Allocations.{Allocation}
 use Rattle.turn_table.specs.Slots.{IsTable}
 

@@ -5,7 +5,7 @@ use Rattle.std.specs.List.{list_any}
 use Rattle.std.proofs.lemmas.Option.{none-some}
 use Rattle.std.proofs.lemmas.Bool.{cond_both}
 use Rattle.std.proofs.lemmas.List.{get_or-set_same, get_or-set_other}
-use Rattle.turn_table.specs.Endpoints.{FiveTuple}
+use Rattle.stun_endpoints.specs.declared.endpoints.FiveTuple.{FiveTuple}
 use Rattle.turn_table.specs.Allocations.{seconds, Allocation, is_live}
 use Rattle.turn_table.specs.Rows.{uses_relay}
 use Rattle.turn_table.specs.Slots.{in_slot, put_first, listed, Has, AreApart, places, if_ended, AreSoon, AreCounted, IsTable}

@@ -4,7 +4,9 @@ use Rattle.std.specs.List.{list_any}
 use Rattle.std.specs.Prelude.{◌==◌, ◌&&◌, nat_lt}
 use Rattle.std.specs.Option.{option_map_or}
 use Rattle.std.proofs.lemmas.Bool.{cond_both, cond-true, cond-false, and_parts, and_from, or_left, or_right, false≢true}
-use Rattle.turn_table.specs.Endpoints.{Endpoint, FiveTuple, is_endpoint, is_tuple}
+use Rattle.stun_endpoints.specs.declared.endpoints.Endpoint.{Endpoint}
+use Rattle.stun_endpoints.specs.declared.endpoints.FiveTuple.{FiveTuple}
+use Rattle.stun_endpoints.specs.Endpoints.{is_endpoint, is_tuple}
 use Rattle.turn_table.specs.Allocations.{seconds, Channel, Allocation, Setup, State, is_live, is_of, is_at, allocation_of, has_permission, is_permitted, is_channel, channel_by_peer}
 use Rattle.turn_table.specs.Events.{sends_on, Output, to_peer, to_client, to_client_on, nothing}
 use Rattle.turn_table.specs.Relays.{sent, sent_on, received}
@@ -13,7 +15,7 @@ use Rattle.turn_table.specs.Steps.{at}
 use Rattle.turn_table.specs.Runs.{Timed, Happening, run, history}
 use Rattle.turn_table.specs.Warrants.{Happened, Binds, IsAskedFor}
 use Rattle.turn_table.specs.Works.{IsDue, output_of, Reaches, Works}
-use Rattle.turn_table.proofs.AddressesLemmas.{tuple_same, endpoint_is_itself}
+use Rattle.stun_endpoints.proofs.AddressesLemmas.{tuple_same, endpoint_is_itself}
 use Rattle.turn_table.proofs.FindsLemmas.{find_true, any_found, none_found, left_false}
 use Rattle.turn_table.proofs.WorksLemmas.{HasChannel, Held, run_held}
 use Rattle.turn_table.proofs.SocketsLemmas.{AreApart, run_apart}

@@ -4,7 +4,9 @@ use Rattle.std.specs.List.{list_any}
 use Rattle.std.specs.Prelude.{◌==◌, ◌&&◌, nat_lt, max}
 use Rattle.std.specs.Option.{option_map_or}
 use Rattle.std.proofs.lemmas.Bool.{cond_both, cond-true, cond-false, and_parts, and_from, or_left, lt-ltb, false≢true}
-use Rattle.turn_table.specs.Endpoints.{Endpoint, FiveTuple, is_ip, is_endpoint, is_tuple}
+use Rattle.stun_endpoints.specs.declared.endpoints.Endpoint.{Endpoint}
+use Rattle.stun_endpoints.specs.declared.endpoints.FiveTuple.{FiveTuple}
+use Rattle.stun_endpoints.specs.Endpoints.{is_ip, is_endpoint, is_tuple}
 use Rattle.turn_table.specs.Allocations.{seconds, Permission, Channel, Allocation, Setup, State, is_live, is_of, allocation_of, is_permission, has_permission, channel_by_number, channel_by_peer}
 use Rattle.turn_table.specs.Events.{Offer, Request, allocate, refresh, permit, bind, unfit, Event, asks, sends, sends_on, arrives, polls, allocated, refreshed, done, refused, answers}
 use Rattle.turn_table.specs.Rows.{refresh_fault, permit_fault, bind_fault, is_other_channel, with_permissions}
@@ -12,7 +14,7 @@ use Rattle.turn_table.specs.Steps.{Step, allocated_for, refreshed_for, at, opene
 use Rattle.turn_table.specs.Runs.{Timed, Happening, run, happening, history}
 use Rattle.turn_table.specs.Warrants.{Happened, names, refreshed_in, is_asked_by, refreshed_to, end_of, Opens, Permits, Binds}
 use Rattle.turn_table.specs.Works.{Lasted}
-use Rattle.turn_table.proofs.AddressesLemmas.{endpoint_same, tuple_same, tuple_is_itself}
+use Rattle.stun_endpoints.proofs.AddressesLemmas.{endpoint_same, tuple_same, tuple_is_itself}
 use Rattle.turn_table.proofs.ListsLemmas.{passes}
 use Rattle.turn_table.proofs.FindsLemmas.{find_filter, find_true, find_later, find_changed_own, find_lasting_own, left_false, dead_later}
 use Rattle.turn_table.proofs.CasesLemmas.{fulfil_cases, allocate_cases, others_leave, bind_fits}

@@ -1,7 +1,8 @@
 -- What an Allocate request is answered, and what it leaves (RFC 8656, section 7).
 use Rattle.std.specs.Prelude.{◌≡◌, ℕ, false, Option, None, Some, IsSome, Result, Ok, Err}
 use Rattle.std.specs.List.{list_any}
-use Rattle.turn_table.specs.Endpoints.{Endpoint, FiveTuple}
+use Rattle.stun_endpoints.specs.declared.endpoints.Endpoint.{Endpoint}
+use Rattle.stun_endpoints.specs.declared.endpoints.FiveTuple.{FiveTuple}
 use Rattle.turn_table.specs.Allocations.{Allocation, Setup, State, allocation_of}
 use Rattle.turn_table.specs.Events.{Offer, allocate, asks, answers}
 use Rattle.turn_table.specs.Outputs.{answer_of}

@@ -2,9 +2,12 @@
 -- of the caller's clock. What is over may still be kept: every word below asks for the time.
 use Rattle.std.specs.Prelude.{ℕ, ◌*◌, Bool, ◌&&◌, ◌||◌, List, Option, find, nat_lt, ◌==◌}
 use Rattle.std.specs.List.{list_any}
-use Rattle.turn_table.specs.Endpoints.{Ip, Endpoint, FiveTuple, is_ip, is_endpoint, is_tuple}
-pub use Rattle.turn_table.specs.declared.endpoints.Permission.{Permission}
-pub use Rattle.turn_table.specs.declared.endpoints.Channel.{Channel}
+use Rattle.stun_endpoints.specs.declared.endpoints.Ip.{Ip}
+use Rattle.stun_endpoints.specs.declared.endpoints.Endpoint.{Endpoint}
+use Rattle.stun_endpoints.specs.declared.endpoints.FiveTuple.{FiveTuple}
+use Rattle.stun_endpoints.specs.Endpoints.{is_ip, is_endpoint, is_tuple}
+pub use Rattle.turn_table.specs.declared.permissions.Permission.{Permission}
+pub use Rattle.turn_table.specs.declared.permissions.Channel.{Channel}
 
 abbrev pub seconds : ℕ → ℕ
 seconds n = n * 1_000_000_000

@@ -1,6 +1,7 @@
 -- What the calls of the table take and return, in the terms of its events.
 use Rattle.std.specs.Prelude.{ℕ, Bool, not, ◌&&◌, List, Option, None, Some, if◌then◌else◌}
-use Rattle.turn_table.specs.Endpoints.{Ip, Endpoint}
+use Rattle.stun_endpoints.specs.declared.endpoints.Ip.{Ip}
+use Rattle.stun_endpoints.specs.declared.endpoints.Endpoint.{Endpoint}
 use Rattle.turn_table.specs.Allocations.{Setup}
 use Rattle.turn_table.specs.Tunnels.{is_tunnelled}
 use Rattle.turn_table.specs.Events.{Answer, allocated, refreshed, done, refused, Output, to_peer, to_client, to_client_on, nothing}

@@ -1,55 +1,49 @@
 -- Which peers a TURN server relays to (RFC 8656, section 21).
-use Rattle.std.specs.Prelude.{ℕ, ◌+◌, Bool, false, ◌&&◌, ◌||◌, not, ◌==◌, nat_le, List}
+use Rattle.std.specs.Prelude.{ℕ, ◌+◌, Bool, ◌&&◌, ◌||◌, not, nat_le, List}
 use Rattle.std.specs.List.{list_all, list_any}
-use Rattle.std.specs.Option.{option_map_or}
-use Rattle.std.specs.Net.Socket.{socket_ip, socket_port}
-use Rattle.std.specs.declared.net.ip_addr.IpAddr.{IpAddr}
+use Rattle.std.specs.Net.Socket.{socket_ip}
 use Rattle.std.specs.declared.net.socket_addr.SocketAddr.{SocketAddr}
-use Rattle.turn_table.specs.declared.endpoints.Ip.{Ip}
-use Rattle.turn_table.specs.declared.endpoints.Endpoint.{Endpoint}
+use Rattle.stun_endpoints.specs.declared.endpoints.Ip.{Ip}
+use Rattle.stun_endpoints.specs.declared.endpoints.Endpoint.{Endpoint}
+use Rattle.stun_endpoints.specs.Endpoints.{is_endpoint}
+use Rattle.stun_endpoints.specs.Conversions.{is_address, ip_of, endpoint_of}
 use Rattle.turn_table.specs.declared.peers.defaults.TheConstants.{DENIED_BY_DEFAULT}
-use Rattle.turn_table.specs.declared.peers.networks.Address.{Address}
 use Rattle.turn_table.specs.declared.peers.networks.Prefix.{Prefix}
 use Rattle.turn_table.specs.declared.peers.Peers.{Peers}
-use Rattle.turn_table.specs.Networks.{is_same, address_of, address_in, contains}
+use Rattle.turn_table.specs.Networks.{contains}
 
 -- whether a prefix of at least this length allows an address
-abbrev pub is_allowed_by : List Prefix → ℕ → Address → Bool
+abbrev pub is_allowed_by : List Prefix → ℕ → Ip → Bool
 is_allowed_by allowed least a = list_any (λ q. nat_le least q.length && contains a q) allowed
 
 -- whether each prefix that denies an address is overruled by one that allows it, and that is longer
 -- by at least so many bits
-abbrev pub is_open : List Prefix → List Prefix → ℕ → Address → Bool
+abbrev pub is_open : List Prefix → List Prefix → ℕ → Ip → Bool
 is_open denied allowed more a =
     list_all (λ p. not (contains a p) || is_allowed_by allowed (p.length + more) a) denied
 
 -- The longest prefix decides: one that denies is overruled by a longer one that allows, and one that
 -- denies by default also by one of the same length, which is then the same prefix.
-abbrev pub allows_address : List Prefix → List Prefix → Address → Bool
+abbrev pub allows_address : List Prefix → List Prefix → Ip → Bool
 allows_address denied allowed a =
     is_open denied allowed 1 a && is_open DENIED_BY_DEFAULT allowed 0 a
 
-abbrev pub allows_ip : Peers → IpAddr → Bool
-allows_ip peers ip = allows_address peers.denied.now peers.allowed.now (address_of ip)
+abbrev pub allows_ip : Peers → Ip → Bool
+allows_ip peers ip = allows_address peers.denied.now peers.allowed.now ip
 
--- whether the server listens at an address and a port, where its clients send to
-abbrev pub is_own : Address → (port : ℕ) → SocketAddr → Bool
-is_own a port own = (socket_port own == port) && is_same (address_of (socket_ip own)) a
-
-abbrev pub listens_at : Peers → Address → (port : ℕ) → Bool
-listens_at peers a port = list_any (is_own a port) peers.listening.now
+-- whether a transport address is one of those where the server listens, to which its clients send
+abbrev pub is_listening : List SocketAddr → Endpoint → Bool
+is_listening listening peer = list_any (λ own. is_endpoint (endpoint_of own) peer) listening
 
 -- and a peer isn't the server itself (section 21.1.7)
 abbrev pub allows : Peers → SocketAddr → Bool
 allows peers peer =
-    allows_ip peers (socket_ip peer)
-    && not (listens_at peers (address_of (socket_ip peer)) (socket_port peer))
+    allows_ip peers (ip_of (socket_ip peer))
+    && not (is_listening peers.listening.now (endpoint_of peer))
 
 -- the same for a table: what is no address is denied
 abbrev pub is_peer_allowed : Peers → Ip → Bool
-is_peer_allowed peers ip =
-    option_map_or (allows_address peers.denied.now peers.allowed.now) (address_in ip) false
+is_peer_allowed peers ip = is_address ip && allows_ip peers ip
 
 abbrev pub is_port_allowed : Peers → Endpoint → Bool
-is_port_allowed peers peer =
-    option_map_or (λ a. not (listens_at peers a peer.port)) (address_in peer.ip) false
+is_port_allowed peers peer = is_address peer.ip && not (is_listening peers.listening.now peer)

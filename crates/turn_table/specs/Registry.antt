@@ -5,7 +5,7 @@ use Rattle.std.specs.Prelude.{ℕ, List, [], ◌∷◌}
 use Rattle.std.specs.declared.net.ip_addr.IpAddr.{IpAddr}
 use Rattle.std.specs.declared.net.ip_addr.IpAddr.TheVariants.{V4, V6}
 use Rattle.turn_table.specs.declared.peers.networks.Prefix.{Prefix}
-use Rattle.turn_table.specs.Networks.{address_of}
+use Rattle.stun_endpoints.specs.Conversions.{ip_of}
 
 abbrev pub ipv4 : (a b c d : ℕ) → IpAddr
 ipv4 a b c d = V4 (record { octets = a ∷ b ∷ c ∷ d ∷ [] })
@@ -213,7 +213,7 @@ open_ipv6 =
 
 -- the prefix of the first bits of these addresses
 abbrev pub prefix4 : (a b c d length : ℕ) → Prefix
-prefix4 a b c d length = record { network = address_of (ipv4 a b c d); length = length }
+prefix4 a b c d length = record { network = ip_of (ipv4 a b c d); length = length }
 
 abbrev pub prefix6 : (a b c d e f g h length : ℕ) → Prefix
-prefix6 a b c d e f g h length = record { network = address_of (ipv6 a b c d e f g h); length = length }
+prefix6 a b c d e f g h length = record { network = ip_of (ipv6 a b c d e f g h); length = length }

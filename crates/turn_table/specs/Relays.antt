@@ -2,7 +2,7 @@
 -- No row changes what is kept.
 use Rattle.std.specs.Prelude.{ℕ, ◌&&◌, List, if◌then◌else◌}
 use Rattle.std.specs.Option.{option_map_or}
-use Rattle.turn_table.specs.Endpoints.{Endpoint}
+use Rattle.stun_endpoints.specs.declared.endpoints.Endpoint.{Endpoint}
 use Rattle.turn_table.specs.Allocations.{Allocation, Setup, State, allocation_of, allocation_at, is_permitted, channel_by_number, channel_by_peer}
 use Rattle.turn_table.specs.Events.{Event, asks, sends, sends_on, arrives, polls, Output, to_peer, to_client, to_client_on, nothing}
 

@@ -1,7 +1,7 @@
 -- The requests that need an allocation: which fault each has, and what it does if it has none.
 use Rattle.std.specs.Prelude.{◌≡◌, ℕ, ◌+◌, Option, None, Some, MatchOption}
 use Rattle.std.specs.Option.{option_map_or, option_or}
-use Rattle.turn_table.specs.Endpoints.{FiveTuple}
+use Rattle.stun_endpoints.specs.declared.endpoints.FiveTuple.{FiveTuple}
 use Rattle.turn_table.specs.Allocations.{seconds, Allocation, Setup, State}
 use Rattle.turn_table.specs.Events.{Request, allocate, refresh, permit, bind, unfit, Answer, refreshed, done, refused}
 use Rattle.turn_table.specs.Rows.{owner_fault, refresh_fault, permit_fault, bind_fault}

@@ -2,7 +2,9 @@
 use Rattle.std.specs.Prelude.{◌≡◌, ℕ, ◌+◌, ◌*◌, ◌%◌, ◌++◌, ◌^◌, ◌<◌, ◌≤◌, true, false, List, [], ◌∷◌, Option, None, Some, length, slice_index_or, MatchOption, if◌then◌else◌, ◌⊎◌, Bool}
 use Rattle.std.specs.List.{list_any}
 use Rattle.std.specs.Map.{lookup}
-use Rattle.turn_table.specs.Endpoints.{Endpoint, FiveTuple, is_ip, is_tuple}
+use Rattle.stun_endpoints.specs.declared.endpoints.Endpoint.{Endpoint}
+use Rattle.stun_endpoints.specs.declared.endpoints.FiveTuple.{FiveTuple}
+use Rattle.stun_endpoints.specs.Endpoints.{is_ip, is_tuple}
 use Rattle.turn_table.specs.Allocations.{seconds, Permission, Allocation, State, is_live, is_of, is_at}
 use Rattle.turn_table.specs.Rows.{is_users, uses_relay}
 use Rattle.turn_table.specs.Steps.{at}

@@ -1,6 +1,6 @@
 -- Clients that come by a tunnel to IPv6 (RFC 8656, section 21.4).
 use Rattle.std.specs.Prelude.{◌/◌, ◌^◌, Bool, ◌&&◌, ◌||◌, ◌==◌}
-use Rattle.turn_table.specs.Endpoints.{Ip}
+use Rattle.stun_endpoints.specs.declared.endpoints.Ip.{Ip}
 
 -- whether an address is one of Teredo, 2001::/32 (RFC 4380, section 2.6), or of 6to4, 2002::/16 (RFC
 -- 3056, section 2)

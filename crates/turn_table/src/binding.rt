@@ -4,8 +4,9 @@ ghost use Rattle.std.specs.Prelude.{◌≡◌, ◌+◌, ◌<◌, ◌≤◌, ◌^
 ghost use Rattle.turn_table.specs.Allocations.{seconds};
 ghost use Rattle.turn_table.specs.Rows.{with_channel, is_other_channel};
 
-use crate::endpoints::{Channel, Endpoint};
+use crate::permissions::Channel;
 use arrayvec::ArrayVec;
+use stun_endpoints::Endpoint;
 
 /// How long a channel lasts, in nanoseconds.
 const LASTING: u128 = 600_000_000_000;

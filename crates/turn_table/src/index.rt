@@ -2,14 +2,15 @@
 
 ghost use Rattle.std.specs.Prelude.{◌≡◌, ◌+◌, ◌<◌, ◌≤◌, length, Some, MatchOption, if◌then◌else◌};
 ghost use Rattle.std.specs.HashMap.{hash_map_len, spare};
-ghost use Rattle.turn_table.specs.Endpoints.{FiveTuple, is_tuple};
+ghost use Rattle.stun_endpoints.specs.declared.endpoints.FiveTuple.{FiveTuple};
+ghost use Rattle.stun_endpoints.specs.Endpoints.{is_tuple};
 ghost use Rattle.turn_table.specs.Slots.{in_slot, named, if_live, IsIndex, Renames};
 
-use crate::endpoints::FiveTuple;
 use crate::hashing::Seeded;
 use crate::places::slot_at;
 use crate::slot::Slot;
 use std::collections::HashMap;
+use stun_endpoints::FiveTuple;
 
 /// Makes the index name a place for a 5-tuple.
 pub(crate) fn name(index: &mut HashMap<FiveTuple, usize, Seeded>, tuple: FiveTuple, place: usize)

@@ -3,12 +3,12 @@
 
 mod allocating;
 mod binding;
-mod endpoints;
 mod hashing;
 mod index;
 mod laws;
 mod limits;
 pub mod peers;
+mod permissions;
 mod permitting;
 mod places;
 mod polling;
@@ -20,12 +20,12 @@ mod table;
 mod tunnels;
 mod user;
 
-pub use endpoints::{Channel, Endpoint, FiveTuple, Ip, Permission};
 pub use laws::{
     clients_are_apart, relaying_is_warranted, strangers_get_little, table_is_bounded,
     what_is_permitted_works,
 };
 pub use limits::{Limits, PeerPolicy};
+pub use permissions::{Channel, Permission};
 pub use reply::{Reply, Request, ToClient, ToPeer};
 pub use table::TurnTable;
 pub use tunnels::is_tunnelled;

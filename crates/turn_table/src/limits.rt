@@ -1,10 +1,10 @@
 //! What the caller sets once, and which peers it allows.
 
 ghost use Rattle.std.specs.Prelude.{◌≡◌, Bool};
-ghost use Rattle.turn_table.specs.declared.endpoints.Ip.{Ip};
-ghost use Rattle.turn_table.specs.declared.endpoints.Endpoint.{Endpoint};
+ghost use Rattle.stun_endpoints.specs.declared.endpoints.Ip.{Ip};
+ghost use Rattle.stun_endpoints.specs.declared.endpoints.Endpoint.{Endpoint};
 
-use crate::endpoints::{Endpoint, Ip};
+use stun_endpoints::{Endpoint, Ip};
 
 /// What the caller sets when it makes a table: bounds on allocations and lifetimes, and two departures
 /// from RFC 8656 for clients that need them.

@@ -10,21 +10,20 @@ mod laws;
 mod networks;
 mod parse;
 
-use crate::endpoints::{Endpoint, Ip};
 use crate::limits::PeerPolicy;
 pub use defaults::DENIED_BY_DEFAULT;
 pub use facts::{longer_prefixes_overrule, registry_is_held};
 pub use laws::longest_prefix_decides;
 pub use networks::{Prefix, PrefixError};
-use networks::{Address, address_in, address_of};
 use std::net::{IpAddr, SocketAddr};
+use stun_endpoints::{Endpoint, Ip};
 
 /// Which peers a server relays to: the caller's rules, and [`DENIED_BY_DEFAULT`] after them.
 ///
 /// Of the prefixes that contain an address the longest decides. If one prefix is in several lists,
 /// `denied` comes before `allowed`, and `allowed` before [`DENIED_BY_DEFAULT`]: `10.0.0.0/8` in
 /// `allowed` opens what the default closes, and in both lists it is closed. An address that no
-/// prefix contains is allowed. A prefix contains addresses of its own version alone:
+/// prefix contains is allowed. A prefix contains addresses of its own family alone:
 /// `::ffff:10.0.0.1` is an IPv6 address, and denied as one of `::ffff:0:0/96`. If IPv4 addresses are
 /// translated in your network by an IPv6 prefix of its own (RFC 6052), deny that prefix.
 ///
@@ -58,7 +57,8 @@ pub struct Peers<'a> {
 
 impl Peers<'_> {
     ghost use Rattle.std.specs.Prelude.{◌≡◌};
-    ghost use Rattle.turn_table.specs.Peers.{allows, allows_ip, allows_address, listens_at};
+    ghost use Rattle.stun_endpoints.specs.Conversions.{ip_of};
+    ghost use Rattle.turn_table.specs.Peers.{allows, allows_ip, is_listening};
 
     /// Whether the server relays to this peer: `allows_ip` of its IP address, and the server doesn't
     /// listen there. Flow information and scope ID don't count.
@@ -79,7 +79,7 @@ impl Peers<'_> {
     pub fn allows(&self, peer: SocketAddr) -> bool
         ensures { result ≡ allows self.now peer }
     {
-        self.allows_ip(peer.ip()) && !self.listens_at(address_of(peer.ip()), peer.port())
+        self.allows_ip(peer.ip()) && !self.is_listening(Endpoint::from(peer))
     }
 
     /// Whether the server relays to peers of this IP address: the test for a permission, which is of no
@@ -96,36 +96,39 @@ impl Peers<'_> {
     /// assert!(rt; !peers.allows_ip("fe80::1".parse()?));
     /// ```
     pub fn allows_ip(&self, ip: IpAddr) -> bool
-        ensures { result ≡ allows_ip self.now ip }
+        ensures { result ≡ allows_ip self.now (ip_of ip) }
     {
-        self.allows_number(address_of(ip))
+        self.allows_number(Ip::from(ip))
     }
 
     /// Whether the prefixes allow an address.
-    fn allows_number(&self, address: Address) -> bool
-        ensures { result ≡ allows_address self.now.denied.now self.now.allowed.now address }
+    fn allows_number(&self, ip: Ip) -> bool
+        ensures { result ≡ allows_ip self.now ip }
     {
-        is_open(self.denied, self.allowed, 1, address)
-            && is_open(&DENIED_BY_DEFAULT, self.allowed, 0, address)
+        is_open(self.denied, self.allowed, 1, ip)
+            && is_open(&DENIED_BY_DEFAULT, self.allowed, 0, ip)
     }
 
-    /// Whether the server listens at an address and a port.
-    fn listens_at(&self, address: Address, port: u16) -> bool
-        ensures { result ≡ listens_at self.now address port }
+    /// Whether the server listens at a transport address.
+    fn is_listening(&self, peer: Endpoint) -> bool
+        ensures { result ≡ is_listening self.now.listening.now peer }
     {
-        self.listening.iter().any(|own| own.port() == port && address_of(own.ip()).is_same(address))
+        self.listening
+            .iter()
+            .any(|own| Endpoint::from(*own) == peer)
     }
 }
 
 /// The rules for a [`TurnTable`](crate::TurnTable). [`Peers::allows`] is `allows_address` and
-/// `allows_port` of the same address: no port is denied but those in `listening`. An [`Ip`] that is no
-/// address is denied: one of a family other than 1 and 2, or of IPv4 with a number above 32 bits.
+/// `allows_port` of the same address: no port is denied but those in `listening`. An [`Ip`] that
+/// [is no address](Ip::is_address) is denied.
 ///
 /// # Examples
 ///
 /// ```
 /// use turn_table::peers::Peers;
-/// use turn_table::{Endpoint, Ip, PeerPolicy};
+/// use stun_endpoints::{Endpoint, Ip};
+/// use turn_table::PeerPolicy;
 ///
 /// let own = Ip { family: 1, number: 0xC633_6407 };
 /// let peers = Peers { denied: &[], allowed: &[], listening: &["198.51.100.7:3478".parse()?] };
@@ -143,17 +146,11 @@ impl PeerPolicy for Peers<'_> {
     ghost allows_port = { is_port_allowed };
 
     fn allows_address(&self, ip: Ip) -> bool {
-        match address_in(ip) {
-            Some(address) => self.allows_number(address),
-            None => false,
-        }
+        ip.is_address() && self.allows_number(ip)
     }
 
     fn allows_port(&self, peer: Endpoint) -> bool {
-        match address_in(peer.ip) {
-            Some(address) => !self.listens_at(address, peer.port),
-            None => false,
-        }
+        peer.ip.is_address() && !self.is_listening(peer)
     }
 }
 
@@ -161,19 +158,18 @@ ghost use Rattle.std.specs.Prelude.{◌≡◌, ◌+◌, ◌≤◌};
 ghost use Rattle.turn_table.specs.Peers.{is_allowed_by, is_open};
 
 /// Whether one of these prefixes contains the address, and has at least this length.
-fn is_allowed_by(allowed: &[Prefix], least: u16, address: Address) -> bool
-    ensures { result ≡ is_allowed_by allowed.now least address }
+fn is_allowed_by(allowed: &[Prefix], least: u16, ip: Ip) -> bool
+    ensures { result ≡ is_allowed_by allowed.now least ip }
 {
-    allowed.iter().any(|prefix| least <= prefix.length() as u16 && prefix.contains(address))
+    allowed.iter().any(|prefix| least <= prefix.length() as u16 && prefix.contains(ip))
 }
 
 /// Whether for each of `denied` that contains the address there is one of `allowed` that contains
 /// it, and is longer by at least `more`.
-fn is_open(denied: &[Prefix], allowed: &[Prefix], more: u8, address: Address) -> bool
-    ensures { result ≡ is_open denied.now allowed.now more address }
+fn is_open(denied: &[Prefix], allowed: &[Prefix], more: u8, ip: Ip) -> bool
+    ensures { result ≡ is_open denied.now allowed.now more ip }
 {
     denied.iter().all(|prefix| {
-        !prefix.contains(address)
-            || is_allowed_by(allowed, prefix.length() as u16 + more as u16, address)
+        !prefix.contains(ip) || is_allowed_by(allowed, prefix.length() as u16 + more as u16, ip)
     })
 }

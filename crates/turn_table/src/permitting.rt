@@ -5,8 +5,9 @@ ghost use Rattle.turn_table.specs.Allocations.{seconds};
 ghost use Rattle.turn_table.specs.Rows.{with_permission, with_permissions, is_other_permission};
 ghost use Rattle.turn_table.specs.Slots.{AreDistinct};
 
-use crate::endpoints::{Endpoint, Ip, Permission};
+use crate::permissions::Permission;
 use arrayvec::ArrayVec;
+use stun_endpoints::{Endpoint, Ip};
 
 /// How long a permission lasts, in nanoseconds.
 const LASTING: u128 = 300_000_000_000;

@@ -1,6 +1,6 @@
 //! What the table answers, and where data goes.
 
-use crate::endpoints::{Endpoint, FiveTuple};
+use stun_endpoints::{Endpoint, FiveTuple};
 
 /// A request of an authenticated user, other than Allocate, with the values of its attributes.
 #[derive(Clone, Copy)]

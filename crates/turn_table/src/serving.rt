@@ -3,7 +3,9 @@
 ghost use Rattle.std.specs.Prelude.{◌≡◌, ℕ, ◌+◌, ◌<◌, ◌^◌, ◌==◌, ◌∷◌, [], true, Bool, MatchResult};
 ghost use Rattle.std.specs.List.{list_all};
 ghost use Rattle.std.specs.Option.{option_or, option_map_or};
-ghost use Rattle.turn_table.specs.Endpoints.{Ip, Endpoint, is_endpoint};
+ghost use Rattle.stun_endpoints.specs.declared.endpoints.Ip.{Ip};
+ghost use Rattle.stun_endpoints.specs.declared.endpoints.Endpoint.{Endpoint};
+ghost use Rattle.stun_endpoints.specs.Endpoints.{is_endpoint};
 ghost use Rattle.turn_table.specs.Users.{user_number};
 ghost use Rattle.turn_table.specs.Allocations.{seconds, channel_by_number, channel_by_peer};
 ghost use Rattle.turn_table.specs.declared.limits.Limits.{Limits};
@@ -14,14 +16,15 @@ ghost use Rattle.turn_table.specs.Requests.{asked, fault_of, fault_for, changed_
 ghost use Rattle.turn_table.specs.Events.{done, refreshed};
 
 use crate::binding::{has_room, put};
-use crate::endpoints::{Endpoint, Permission};
 use crate::limits::{Limits, PeerPolicy};
+use crate::permissions::Permission;
 use crate::permitting::{copy_of, put_all};
 use crate::reply::{Reply, Request};
 use crate::slot::Slot;
 use crate::tunnels::is_tunnelled;
 use crate::user::UserId;
 use arrayvec::ArrayVec;
+use stun_endpoints::Endpoint;
 
 /// How many nanoseconds a second has.
 pub(crate) const SECOND: u128 = 1_000_000_000;

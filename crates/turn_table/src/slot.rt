@@ -2,7 +2,8 @@
 
 ghost use Rattle.std.specs.Prelude.{◌≡◌, ℕ, List, Bool, option_copied, option_map};
 ghost use Rattle.std.specs.List.{list_any};
-ghost use Rattle.turn_table.specs.Endpoints.{Ip, Endpoint};
+ghost use Rattle.stun_endpoints.specs.declared.endpoints.Ip.{Ip};
+ghost use Rattle.stun_endpoints.specs.declared.endpoints.Endpoint.{Endpoint};
 ghost use Rattle.turn_table.specs.Users.{user_number};
 ghost use Rattle.turn_table.specs.Allocations.{is_live, is_of, is_at, has_permission, channel_by_number, channel_by_peer, is_channel, is_permitted};
 ghost use Rattle.turn_table.specs.Relays.{sent, sent_on, received};
@@ -10,12 +11,13 @@ ghost use Rattle.turn_table.specs.Rows.{is_users};
 ghost use Rattle.turn_table.specs.Slots.{fresh};
 ghost use Rattle.turn_table.specs.Outputs.{setup_of, sending, receiving};
 
-use crate::endpoints::{Channel, Endpoint, FiveTuple, Ip, Permission};
 use crate::limits::{Limits, PeerPolicy};
+use crate::permissions::{Channel, Permission};
 use crate::reply::{ToClient, ToPeer};
 use crate::user::UserId;
 use arrayvec::ArrayVec;
 use std::marker::Model;
+use stun_endpoints::{Endpoint, FiveTuple, Ip};
 
 /// An allocation, with its permissions and channels inline.
 #[derive(Drop)]

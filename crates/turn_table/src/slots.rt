@@ -11,7 +11,6 @@ ghost use Rattle.turn_table.specs.Requests.{asked, fulfilled};
 ghost use Rattle.turn_table.specs.Allocates.{AnswersAgain};
 ghost use Rattle.turn_table.specs.Events.{answers};
 
-use crate::endpoints::{Endpoint, FiveTuple};
 use crate::hashing::Seeded;
 use crate::index::{make_room, name};
 use crate::limits::{Limits, PeerPolicy};
@@ -23,6 +22,7 @@ use crate::user::UserId;
 use std::alloc::{AllocError, Global};
 use std::collections::{HashMap, VecDeque};
 use std::marker::Model;
+use stun_endpoints::{Endpoint, FiveTuple};
 
 /// How many slots there may be: a socket's number has its slot in its low 32 bits.
 const PLACES: u64 = 4_294_967_296;

@@ -1,7 +1,8 @@
 //! The table of a TURN server.
 
 ghost use Rattle.std.specs.Prelude.{◌≡◌, ◌≤◌, ℕ, List, Bool, IfOk};
-ghost use Rattle.turn_table.specs.Endpoints.{Ip, Endpoint};
+ghost use Rattle.stun_endpoints.specs.declared.endpoints.Ip.{Ip};
+ghost use Rattle.stun_endpoints.specs.declared.endpoints.Endpoint.{Endpoint};
 ghost use Rattle.turn_table.specs.Users.{user_number};
 ghost use Rattle.turn_table.specs.Events.{asks, sends, sends_on, arrives, answers};
 ghost use Rattle.turn_table.specs.Relays.{relays};
@@ -14,7 +15,6 @@ ghost use Rattle.turn_table.specs.Allocates.{Allocates};
 ghost use Rattle.turn_table.specs.Polls.{Polls};
 
 use crate::allocating::{allocated_for, unmet_code};
-use crate::endpoints::{Endpoint, FiveTuple};
 use crate::limits::{Limits, PeerPolicy};
 use crate::polling::close_ended;
 use crate::reply::{Reply, Request, ToClient, ToPeer};
@@ -22,6 +22,7 @@ use crate::slots::Slots;
 use crate::user::UserId;
 use std::alloc::{AllocError, Global};
 use std::marker::Model;
+use stun_endpoints::{Endpoint, FiveTuple};
 
 /// The allocations that a TURN server has (RFC 8656), each with up to `P` permissions and `C` channels.
 ///
@@ -29,7 +30,8 @@ use std::marker::Model;
 /// steps back counts as stopped. No call but [`TurnTable::new`] allocates.
 ///
 /// ```
-/// use turn_table::{Endpoint, FiveTuple, Limits, Reply, TurnTable, UserId};
+/// use stun_endpoints::{Endpoint, FiveTuple};
+/// use turn_table::{Limits, Reply, TurnTable, UserId};
 ///
 /// let limits = Limits {
 ///     allocations: 100,
@@ -120,7 +122,8 @@ impl<const P: usize, const C: usize> TurnTable<P, C> {
     /// A request that is refused changes nothing.
     ///
     /// ```
-    /// use turn_table::{Endpoint, FiveTuple, Limits, Reply, TurnTable, UserId};
+    /// use stun_endpoints::{Endpoint, FiveTuple};
+    /// use turn_table::{Limits, Reply, TurnTable, UserId};
     ///
     /// let limits = Limits {
     ///     allocations: 100,
@@ -302,7 +305,8 @@ impl<const P: usize, const C: usize> TurnTable<P, C> {
     /// for the peer's IP address.
     ///
     /// ```
-    /// use turn_table::{Endpoint, FiveTuple, Limits, Reply, TurnTable, UserId};
+    /// use stun_endpoints::{Endpoint, FiveTuple};
+    /// use turn_table::{Limits, Reply, TurnTable, UserId};
     ///
     /// let limits = Limits {
     ///     allocations: 100,
@@ -337,7 +341,8 @@ impl<const P: usize, const C: usize> TurnTable<P, C> {
     /// allocation that has ended keeps its slot until a poll closes it.
     ///
     /// ```
-    /// use turn_table::{Endpoint, FiveTuple, Limits, Reply, TurnTable, UserId};
+    /// use stun_endpoints::{Endpoint, FiveTuple};
+    /// use turn_table::{Limits, Reply, TurnTable, UserId};
     ///
     /// let limits = Limits {
     ///     allocations: 100,

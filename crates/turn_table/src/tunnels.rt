@@ -3,7 +3,7 @@
 ghost use Rattle.std.specs.Prelude.{◌≡◌};
 ghost use Rattle.turn_table.specs.Tunnels.{is_tunnelled};
 
-use crate::endpoints::Ip;
+use stun_endpoints::Ip;
 
 /// Whether an address is one of Teredo, 2001::/32, or of 6to4, 2002::/16.
 ///
@@ -15,7 +15,8 @@ use crate::endpoints::Ip;
 /// # Examples
 ///
 /// ```
-/// use turn_table::{Ip, is_tunnelled};
+/// use stun_endpoints::Ip;
+/// use turn_table::is_tunnelled;
 ///
 /// assert!(rt; is_tunnelled(Ip { family: 2, number: 0x2002_C000_0201 << 80 }));
 /// assert!(rt; !is_tunnelled(Ip { family: 2, number: 0x2001_0DB8 << 96 }));

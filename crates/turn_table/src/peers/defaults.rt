@@ -1,14 +1,14 @@
 //! The prefixes that a TURN server denies unless its caller allows them.
 
 use super::Prefix;
-use super::networks::{Address, Version};
+use stun_endpoints::Ip;
 
 /// A prefix of an IPv4 address.
 macro_rules! v4 {
     ($number:literal / $length:literal) => {
         Prefix {
-            network: Address {
-                version: Version::V4,
+            network: Ip {
+                family: 1,
                 number: $number,
             },
             length: $length,
@@ -20,8 +20,8 @@ macro_rules! v4 {
 macro_rules! v6 {
     ($number:literal / $length:literal) => {
         Prefix {
-            network: Address {
-                version: Version::V6,
+            network: Ip {
+                family: 2,
                 number: $number,
             },
             length: $length,

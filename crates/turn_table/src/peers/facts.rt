@@ -3,32 +3,32 @@
 
 ghost use Rattle.std.specs.Prelude.{◌≡◌, true, false, [], ◌∷◌, not};
 ghost use Rattle.std.specs.List.{list_all};
-ghost use Rattle.turn_table.specs.Networks.{address_of, prefix_of};
+ghost use Rattle.stun_endpoints.specs.Conversions.{ip_of};
 ghost use Rattle.turn_table.specs.Peers.{allows_address};
 ghost use Rattle.turn_table.specs.Registry.{ipv4, ipv6, prefix4, prefix6, open_ipv4, open_ipv6, closed_ipv4, closed_ipv6};
 
 /// With no rules of its own a server relays to the addresses beside the blocks of the special-purpose
 /// address registry (RFC 6890), and not to the first and the last of each that is denied.
 pub fn registry_is_held()
-    ensures closed_ipv4 { list_all (λ ip. not (allows_address [] [] (address_of ip))) closed_ipv4 ≡ true }
-    ensures closed_ipv6 { list_all (λ ip. not (allows_address [] [] (address_of ip))) closed_ipv6 ≡ true }
-    ensures open_ipv4 { list_all (λ ip. allows_address [] [] (address_of ip)) open_ipv4 ≡ true }
-    ensures open_ipv6 { list_all (λ ip. allows_address [] [] (address_of ip)) open_ipv6 ≡ true }
+    ensures closed_ipv4 { list_all (λ a. not (allows_address [] [] (ip_of a))) closed_ipv4 ≡ true }
+    ensures closed_ipv6 { list_all (λ a. not (allows_address [] [] (ip_of a))) closed_ipv6 ≡ true }
+    ensures open_ipv4 { list_all (λ a. allows_address [] [] (ip_of a)) open_ipv4 ≡ true }
+    ensures open_ipv6 { list_all (λ a. allows_address [] [] (ip_of a)) open_ipv6 ≡ true }
 {}
 
 /// A longer prefix overrules a shorter one, whichever of them denies; one prefix is denied before it
 /// is allowed, and allowed before it is denied by default; and no prefix contains an address of the
-/// other version.
+/// other family.
 pub fn longer_prefixes_overrule()
-    ensures opened { allows_address [] (prefix4 10 1 0 0 16 ∷ []) (address_of (ipv4 10 1 2 3)) ≡ true }
-    ensures beside { allows_address [] (prefix4 10 1 0 0 16 ∷ []) (address_of (ipv4 10 2 2 3)) ≡ false }
-    ensures closed { allows_address (prefix4 10 1 2 0 24 ∷ []) (prefix4 10 1 0 0 16 ∷ []) (address_of (ipv4 10 1 2 3)) ≡ false }
-    ensures reopened { allows_address (prefix4 10 1 0 0 16 ∷ []) (prefix4 10 1 2 3 32 ∷ []) (address_of (ipv4 10 1 2 3)) ≡ true }
-    ensures default { allows_address [] (prefix4 10 0 0 0 8 ∷ []) (address_of (ipv4 10 1 2 3)) ≡ true }
-    ensures both { allows_address (prefix4 10 0 0 0 8 ∷ []) (prefix4 10 0 0 0 8 ∷ []) (address_of (ipv4 10 1 2 3)) ≡ false }
-    ensures all { allows_address [] (prefix4 0 0 0 0 0 ∷ []) (address_of (ipv4 10 1 2 3)) ≡ false }
-    ensures none { allows_address (prefix4 0 0 0 0 0 ∷ []) [] (address_of (ipv4 192 0 2 1)) ≡ false }
-    ensures only { allows_address (prefix4 0 0 0 0 0 ∷ []) (prefix4 192 0 2 0 24 ∷ []) (address_of (ipv4 192 0 2 1)) ≡ true }
-    ensures mapped { allows_address [] (prefix4 10 0 0 0 8 ∷ []) (address_of (ipv6 0 0 0 0 0 0xffff 0x0a01 0x0203)) ≡ false }
-    ensures other { allows_address (prefix6 0 0 0 0 0 0 0 0 0 ∷ []) [] (address_of (ipv4 192 0 2 1)) ≡ true }
+    ensures opened { allows_address [] (prefix4 10 1 0 0 16 ∷ []) (ip_of (ipv4 10 1 2 3)) ≡ true }
+    ensures beside { allows_address [] (prefix4 10 1 0 0 16 ∷ []) (ip_of (ipv4 10 2 2 3)) ≡ false }
+    ensures closed { allows_address (prefix4 10 1 2 0 24 ∷ []) (prefix4 10 1 0 0 16 ∷ []) (ip_of (ipv4 10 1 2 3)) ≡ false }
+    ensures reopened { allows_address (prefix4 10 1 0 0 16 ∷ []) (prefix4 10 1 2 3 32 ∷ []) (ip_of (ipv4 10 1 2 3)) ≡ true }
+    ensures default { allows_address [] (prefix4 10 0 0 0 8 ∷ []) (ip_of (ipv4 10 1 2 3)) ≡ true }
+    ensures both { allows_address (prefix4 10 0 0 0 8 ∷ []) (prefix4 10 0 0 0 8 ∷ []) (ip_of (ipv4 10 1 2 3)) ≡ false }
+    ensures all { allows_address [] (prefix4 0 0 0 0 0 ∷ []) (ip_of (ipv4 10 1 2 3)) ≡ false }
+    ensures none { allows_address (prefix4 0 0 0 0 0 ∷ []) [] (ip_of (ipv4 192 0 2 1)) ≡ false }
+    ensures only { allows_address (prefix4 0 0 0 0 0 ∷ []) (prefix4 192 0 2 0 24 ∷ []) (ip_of (ipv4 192 0 2 1)) ≡ true }
+    ensures mapped { allows_address [] (prefix4 10 0 0 0 8 ∷ []) (ip_of (ipv6 0 0 0 0 0 0xffff 0x0a01 0x0203)) ≡ false }
+    ensures other { allows_address (prefix6 0 0 0 0 0 0 0 0 0 ∷ []) [] (ip_of (ipv4 192 0 2 1)) ≡ true }
 {}

@@ -3,7 +3,7 @@
 
 ghost use Rattle.std.specs.Prelude.{◌≡◌, ◌≤◌, ◌<◌, true, false, List};
 ghost use Rattle.std.specs.List.{AllByRecursion, IsAmong};
-ghost use Rattle.turn_table.specs.declared.peers.networks.Address.{Address};
+ghost use Rattle.stun_endpoints.specs.declared.endpoints.Ip.{Ip};
 ghost use Rattle.turn_table.specs.declared.peers.networks.Prefix.{Prefix};
 ghost use Rattle.turn_table.specs.Networks.{contains};
 ghost use Rattle.turn_table.specs.Peers.{allows_address};
@@ -16,20 +16,20 @@ use super::DENIED_BY_DEFAULT;
 /// contains it, each of `denied` that does is shorter, and none of [`DENIED_BY_DEFAULT`] that does is
 /// longer; and if no prefix of these two contains it.
 pub fn longest_prefix_decides()
-    ensures denied { (denied allowed : List Prefix) (a : Address) (p : Prefix)
+    ensures denied { (denied allowed : List Prefix) (a : Ip) (p : Prefix)
         → IsAmong denied p → contains a p ≡ true
         → AllByRecursion (λ q. contains a q ≡ true → q.length ≤ p.length) allowed
         → allows_address denied allowed a ≡ false }
-    ensures by_default { (denied allowed : List Prefix) (a : Address) (p : Prefix)
+    ensures by_default { (denied allowed : List Prefix) (a : Ip) (p : Prefix)
         → IsAmong DENIED_BY_DEFAULT p → contains a p ≡ true
         → AllByRecursion (λ q. contains a q ≡ true → q.length < p.length) allowed
         → allows_address denied allowed a ≡ false }
-    ensures allowed { (denied allowed : List Prefix) (a : Address) (q : Prefix)
+    ensures allowed { (denied allowed : List Prefix) (a : Ip) (q : Prefix)
         → IsAmong allowed q → contains a q ≡ true
         → AllByRecursion (λ p. contains a p ≡ true → p.length < q.length) denied
         → AllByRecursion (λ p. contains a p ≡ true → p.length ≤ q.length) DENIED_BY_DEFAULT
         → allows_address denied allowed a ≡ true }
-    ensures no_prefix { (denied allowed : List Prefix) (a : Address)
+    ensures no_prefix { (denied allowed : List Prefix) (a : Ip)
         → AllByRecursion (λ p. contains a p ≡ false) denied
         → AllByRecursion (λ p. contains a p ≡ false) DENIED_BY_DEFAULT
         → allows_address denied allowed a ≡ true }

@@ -1,88 +1,18 @@
-//! IP addresses as numbers, and prefixes of them (RFC 4632, section 3.1; RFC 4291, section 2.3).
+//! Prefixes of IP addresses (RFC 4632, section 3.1; RFC 4291, section 2.3).
 
-ghost use Rattle.std.specs.Prelude.{◌≡◌, ◌≤◌, ◌-◌, ◌/◌, ◌%◌, ◌^◌, ◌==◌, not};
-ghost use Rattle.turn_table.specs.Networks.{is_version, width, address_of, address_in};
+ghost use Rattle.std.specs.Prelude.{◌≡◌, ◌≤◌, ◌/◌, ◌%◌, ◌^◌, ◌==◌, not};
+ghost use Rattle.turn_table.specs.Networks.{width};
 
-use crate::endpoints::Ip;
 use std::net::IpAddr;
+use stun_endpoints::Ip;
 use thiserror::Error;
 
-/// The version of an IP address.
-#[derive(Clone, Copy, Debug, PartialEq, Eq)]
-pub(crate) enum Version {
-    V4,
-    V6,
-}
-
-/// An IP address as a number of 32 or 128 bits, the first the most significant.
-#[derive(Clone, Copy, Debug, PartialEq, Eq)]
-pub(crate) struct Address {
-    pub(crate) version: Version,
-    pub(crate) number: u128,
-}
-
-/// The number of an IP address.
-pub(crate) fn address_of(ip: IpAddr) -> Address
-    ensures { result ≡ address_of ip }
+/// How many bits an address of this family has.
+fn width(family: u8) -> u8
+    ensures width { result ≡ width family }
+    ensures most { result ≤ 128 }
 {
-    match ip {
-        IpAddr::V4(ip) => Address {
-            version: Version::V4,
-            number: ip.to_bits() as u128,
-        },
-        IpAddr::V6(ip) => Address {
-            version: Version::V6,
-            number: ip.to_bits(),
-        },
-    }
-}
-
-/// The number of an address of a table. `None` if it is none: of another family, or of IPv4 with more
-/// than 32 bits.
-pub(crate) fn address_in(ip: Ip) -> Option<Address>
-    ensures { result ≡ address_in ip }
-{
-    let version = match ip.family {
-        1 if ip.number < 1 << 32 => Version::V4,
-        2 => Version::V6,
-        _ => return None,
-    };
-    Some(Address {
-        version,
-        number: ip.number,
-    })
-}
-
-/// How many bits an address of this version has.
-fn width(version: Version) -> u8
-    ensures { result ≡ width version }
-{
-    match version {
-        Version::V4 => 32,
-        Version::V6 => 128,
-    }
-}
-
-/// Whether two versions are one.
-fn is_version(one: Version, other: Version) -> bool
-    ensures { result ≡ is_version one other }
-{
-    match (one, other) {
-        (Version::V4, Version::V4) | (Version::V6, Version::V6) => true,
-        _ => false,
-    }
-}
-
-impl Address {
-    ghost use Rattle.std.specs.Prelude.{◌≡◌};
-    ghost use Rattle.turn_table.specs.Networks.{is_same};
-
-    /// Whether two addresses are one.
-    pub(crate) fn is_same(self, other: Address) -> bool
-        ensures { result ≡ is_same self other }
-    {
-        is_version(self.version, other.version) && self.number == other.number
-    }
+    if family == 1 { 32 } else { 128 }
 }
 
 /// The bits of a number but for the last `dropped`.
@@ -121,7 +51,7 @@ pub enum PrefixError {
     TooLong {
         /// The length of the prefix, in bits.
         length: u8,
-        /// That of an address of this version: 32 or 128.
+        /// That of an address of this family: 32 or 128.
         greatest: u8,
     },
     /// A bit of the address after the prefix is 1, as in `10.0.0.1/8`.
@@ -129,11 +59,11 @@ pub enum PrefixError {
     BitsAfterPrefix,
 }
 
-/// A prefix: the IP addresses of one version that begin with the same bits. Its text is an address,
+/// A prefix: the IP addresses of one family that begin with the same bits. Its text is an address,
 /// a slash and the number of these bits: `10.0.0.0/8`, `2001:db8::/32`.
 #[derive(Clone, Copy, Debug, PartialEq, Eq)]
 pub struct Prefix {
-    pub(crate) network: Address,
+    pub(crate) network: Ip,
     pub(crate) length: u8,
 }
 
@@ -163,8 +93,8 @@ impl Prefix {
     pub fn new(address: IpAddr, length: u8) -> Result<Prefix, PrefixError>
         ensures { result ≡ prefix_of address length }
     {
-        let network = address_of(address);
-        let greatest = width(network.version);
+        let network = Ip::from(address);
+        let greatest = width(network.family);
         if length > greatest {
             return Err(PrefixError::TooLong { length, greatest });
         }
@@ -182,11 +112,11 @@ impl Prefix {
     }
 
     /// Whether the address is one of the prefix.
-    pub(crate) fn contains(&self, address: Address) -> bool
-        ensures { result ≡ contains address self.now }
+    pub(crate) fn contains(&self, ip: Ip) -> bool
+        ensures { result ≡ contains ip self.now }
     {
-        let dropped = width(self.network.version).saturating_sub(self.length);
-        is_version(self.network.version, address.version)
-            && without_last(address.number, dropped) == without_last(self.network.number, dropped)
+        let dropped = width(self.network.family).saturating_sub(self.length);
+        self.network.family == ip.family
+            && without_last(ip.number, dropped) == without_last(self.network.number, dropped)
     }
 }

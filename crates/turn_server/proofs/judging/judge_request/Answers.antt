@@ -25,7 +25,7 @@ returns-in_err-authentication-clause-memory g c e =
     let d = message_bytes c.args.request.now in
     let asks : asks_table (method_of (type_field d)) ≡ true = search rules in
     let nonces_are : state_of c.nonces_of-nonces.result ≡ nonces_at c.args.client c.args.now access =
-    c.nonces_of-nonces.ensures ∙ ap (nonces_of (minting_of access.nonces) c.args.now) c.socket_of.ensures in
+    c.nonces_of-nonces.ensures ∙ ap (nonces_of (minting_of access.nonces) c.args.now) c.from.ensures in
     absurd (false≢true (c.in_err-authentication.ensures.memory
     (ap (λ (n : List ℕ → Known). needs_key access.policy n d) nonces_are ∙ second_false (asks_table (method_of (type_field d))) (needs_key access.policy (nonces_at c.args.client c.args.now access) d) asks e)))
 
@@ -38,7 +38,7 @@ returns-clause-judged g c =
     let other : (method_of (type_field d) == BINDING) ≡ false = search rules in
     let asks : asks_table (method_of (type_field d)) ≡ true = search rules in
     let nonces_are : state_of c.nonces_of-nonces.result ≡ nonces_at c.args.client c.args.now access =
-    c.nonces_of-nonces.ensures ∙ ap (nonces_of (minting_of access.nonces) c.args.now) c.socket_of.ensures in
+    c.nonces_of-nonces.ensures ∙ ap (nonces_of (minting_of access.nonces) c.args.now) c.from.ensures in
     let realm_is : c.realm.result.now ≡ text_bytes access.realm = c.realm.ensures in
     let decides : Decides (credentials site d) c.in_ok-authentication.authentication =
     subst (λ (n : List ℕ → Known). Decides (long_term access.policy (text_bytes access.realm) n keys d) c.in_ok-authentication.authentication) nonces_are

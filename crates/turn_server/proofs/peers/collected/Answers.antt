@@ -4,7 +4,7 @@ use Rattle.stun_grammar.specs.Headers.{id_field}
 use Rattle.stun_grammar.specs.Showing.{shown}
 use Rattle.stun_types.specs.Iterating.{items_left}
 use Rattle.stun_types.specs.Message.{message_bytes}
-use Rattle.turn_table.specs.declared.endpoints.Endpoint.{Endpoint}
+use Rattle.stun_endpoints.specs.declared.endpoints.Endpoint.{Endpoint}
 use Rattle.turn_server.specs.Addresses.{peer_in}
 use Rattle.turn_server.specs.Peers.{peer_items}
 use Rattle.turn_server.proofs.PeersLemmas.{all_sound, all_left, takes, passes}

@@ -7,7 +7,7 @@ use Rattle.turn_server.proofs.responding.bind.Goals as goal
 
 pub returns : goal.returns
 returns c =
-    let text = c.to-reply.ensures.reply ∙ ap (λ (a : SocketAddr). binding_reply a (message_bytes c.args.request.now)) c.socket_of.ensures in
+    let text = c.to-reply.ensures.reply ∙ ap (λ (a : SocketAddr). binding_reply a (message_bytes c.args.request.now)) c.from.ensures in
     record {
       written_is = inl (
         c.write_into.ensures.answer ∙ ap (λ (t : List ℕ). written_in t (length c.args.buffer.now)) text,

@@ -1,6 +1,6 @@
 use Rattle.std.proofs.Common.{◌≡◌, ℕ, ◌+◌, ◌-◌, ◌<◌, ◌≤◌, List, ◌∷◌, length, drop, refl, arith, subst, get_or}
 use Rattle.std.proofs.lemmas.List.{drop_more}
-use Rattle.turn_table.specs.Endpoints.{Endpoint}
+use Rattle.stun_endpoints.specs.declared.endpoints.Endpoint.{Endpoint}
 use Rattle.turn_table.specs.Allocations.{Permission}
 use Rattle.turn_table.specs.Rows.{with_permission, with_permissions}
 use Rattle.turn_table.proofs.DistinctLemmas.{full_stays}

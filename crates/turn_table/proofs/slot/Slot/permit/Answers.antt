@@ -1,5 +1,5 @@
 use Rattle.std.proofs.Common.{true, sym, subst}
-use Rattle.turn_table.specs.Endpoints.{Endpoint}
+use Rattle.stun_endpoints.specs.declared.endpoints.Endpoint.{Endpoint}
 use Rattle.turn_table.specs.Allocations.{Allocation}
 use Rattle.turn_table.specs.Slots.{AreDistinct}
 use Rattle.turn_table.proofs.DistinctLemmas.{distinct_all}
