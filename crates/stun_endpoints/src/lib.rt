@@ -1,6 +1,5 @@
-//! The addresses of STUN, TURN and ICE as two numbers, which a server and an agent keep and compare: an
-//! IP address, a transport address, and the 5-tuple that identifies a TURN client. They convert from
-//! and to the addresses of the standard library.
+//! Addresses as numbers, to keep and to compare: an IP address, a transport address, and the 5-tuple
+//! that identifies a TURN client. They convert from and to the addresses of the standard library.
 #![tactic(auto)]
 
 mod conversions;

@@ -1,4 +1,4 @@
-//! A TURN server over `turn_table`, without sockets and without a clock (RFC 8656): what it takes a
+//! A TURN server over `turn_table`, without sockets or a clock (RFC 8656): what it takes a
 //! client's datagram for, what it keeps and what it does, and its responses.
 #![tactic(auto)]
 

@@ -1,4 +1,4 @@
-//! What a TURN server keeps of its clients, without sockets and without a clock (RFC 8656).
+//! What a TURN server keeps of its clients, without sockets or a clock (RFC 8656).
 #![tactic(auto)]
 
 mod allocating;
