@@ -4,21 +4,11 @@ use Rattle.std.specs.Prelude.{◌&&◌, ◌==◌, ◌⊎◌, nat_lt}
 use Rattle.std.proofs.lemmas.Bool.{and_parts, or_cases, eqb-true, ltb-true}
 use Rattle.std.specs.Int.{w128, byte_at, bytes_high_first, to_be_bytes}
 use Rattle.std.specs.Net.Addr.{segments_of, octets_of, ipv6_segments}
-use Rattle.std.specs.Net.Socket.{socket_ip, socket_port, socket_flowinfo, socket_scope_id}
-use Rattle.std.specs.declared.net.ip_addr.IpAddr.{IpAddr}
 use Rattle.std.specs.declared.net.ip_addr.IpAddr.TheVariants.{V6 as IpV6}
 use Rattle.std.specs.declared.net.ipv6_addr.Ipv6Addr.{Ipv6Addr}
-use Rattle.std.specs.declared.net.socket_addr.SocketAddr.{SocketAddr}
-use Rattle.std.specs.declared.net.socket_addr.SocketAddr.TheVariants.{V4, V6}
 use Rattle.stun_grammar.specs.Numbers.{number, be32, IsBytes}
-use Rattle.stun_values.specs.Addresses.{plain_socket}
 use Rattle.stun_endpoints.specs.Endpoints.{Ip, Endpoint}
 use Rattle.stun_endpoints.specs.Conversions.{is_address, ip_addr_of, endpoint_of, socket_of}
-
--- an address with flow info and scope ID 0 is determined by its IP address and its port
-pub plain_is : (a : SocketAddr) (ip : IpAddr) (port : ℕ) → socket_ip a ≡ ip → socket_port a ≡ port → socket_flowinfo a ≡ 0 → socket_scope_id a ≡ 0 → a ≡ plain_socket ip port
-plain_is (V4 a) ip port of p flow scope = rw (← of) (λ i. V4 (record { ip = a.ip; port = p i }))
-plain_is (V6 a) ip port of p flow scope = rw (← of) (λ i. V6 (record { ip = a.ip; port = p i; flowinfo = flow i; scope_id = scope i }))
 
 -- an address of another family than 1
 pub is_ipv6 : (ip : Ip) (a : Ipv6Addr) → (ip.family ≡ 1 → ⊥) → ipv6_segments a ≡ segments_of (to_be_bytes w128 ip.number) → IpV6 a ≡ ip_addr_of ip
