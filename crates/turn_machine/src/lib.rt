@@ -1,0 +1,418 @@
+//! A TURN server as a machine, and its laws. Each function does nothing: its contract is the law.
+#![tactic(auto)]
+
+ghost use Rattle.std.specs.Prelude.{◌≡◌, ◌↔◌, ◌≢◌, ◌&&◌, ◌<◌, ◌≤◌, ◌⊎◌, ◌*◌, ◌+◌, ◌==◌, ℕ, Bool, List, [], ◌∷◌, ◌++◌, length, map, count_by, max, min, Option, None, Some, true, false, find, if◌then◌else◌};
+ghost use Rattle.std.specs.List.{AllByRecursion};
+ghost use Rattle.turn_machine.specs.Lists.{times};
+ghost use Rattle.stun_endpoints.specs.declared.endpoints.Ip.{Ip};
+ghost use Rattle.stun_endpoints.specs.declared.endpoints.Endpoint.{Endpoint};
+ghost use Rattle.stun_endpoints.specs.declared.endpoints.FiveTuple.{FiveTuple};
+ghost use Rattle.stun_endpoints.specs.Endpoints.{is_ip, is_endpoint, is_tuple};
+ghost use Rattle.turn_machine.specs.Relays.{seconds, Permission, Channel, Relay, Setup, Rules, State};
+ghost use Rattle.turn_machine.specs.Events.{Event, ticks, Icmp, Offer, Want, sends, sends_on, bounces, to_peer, to_client, to_client_on, to_client_icmp, allocate, refresh, permit, bind, asks, arrives, allocated, refused, answers, nothing};
+ghost use Rattle.turn_machine.specs.Times.{at, over_at, granted_for, refreshed_for};
+ghost use Rattle.turn_machine.specs.Opening.{opened, with_relay};
+ghost use Rattle.turn_machine.specs.Steps.{keeping, step};
+ghost use Rattle.turn_machine.specs.Runs.{Timed, run, history, happening};
+ghost use Rattle.turn_machine.specs.Granting.{IsFree, IsOwn, IsFit, IsOpened, given_of, IsCovered, CanPermit, CanBind, IsRefreshed, ArePermitted, IsBound, IsAgainTold};
+ghost use Rattle.turn_machine.specs.Refusals.{IsAgain, IsUnready, AllocateRefusals, RefreshRefusals, PermitRefusals, BindRefusals, UnfitRefusals, IsRoomByLive, IsChannelRoomByLive};
+ghost use Rattle.turn_machine.specs.Quotas.{IsOneOf, AreBy};
+ghost use Rattle.turn_machine.specs.Warrants.{ArePermitting, AreBinding, IsRight};
+ghost use Rattle.turn_machine.specs.Works.{is_reported, IsDue, output_of, Reaches, IsBoundTo};
+ghost use Rattle.turn_machine.specs.Flows.{Flow, flow_of, IsRelayed, IsLeft, IsFirstEnd};
+ghost use Rattle.turn_machine.specs.Strangers.{is_datagram, IsQuiet, IsForgotten};
+ghost use Rattle.turn_machine.specs.Apart.{is_own, own, sights, comes_to};
+ghost use Rattle.turn_machine.specs.Examples.{setup_1, setup_2, session, expected, flood, flood_expected, closed_by, dual, dual_expected, outputs};
+ghost use Rattle.turn_machine.specs.Reserving.{Reservation, Holding, reserved_by, reserves, claims, held_at, is_users_held, is_claim, is_token, reserved_want, outer_step, OuterTimed, outer_run, inner_run, outer_outputs};
+ghost use Rattle.turn_machine.specs.Edges.{said, wanted, setup_3, setup_4, requests, data_cases, icmp_cases, held_said, held_tokens, held_cases};
+ghost use Rattle.turn_machine.specs.FlowCases.{flow_cases};
+ghost use Rattle.turn_machine.specs.Bounds.{IsWithin};
+ghost use Rattle.turn_machine.specs.Numbers.{all_closed, kept_times, Gives, IsGiven};
+
+/// Whatever comes in whatever order: all that is kept is live, so nothing that ended has a place.
+/// Each number that a client was given is that of a live relayed address, or was reported to be
+/// closed; once, and never both. A number is never given a second time, but to the client that
+/// has it and asks again; and nothing comes to a client from a socket that was reported. Before the
+/// first of the ends nothing is due.
+pub fn places_are_for_the_live()
+    ensures live { (setup : Setup) (events : List Timed)
+        → AllByRecursion (λ a. (run setup events).clock < a.until) (run setup events).relays }
+    ensures once { (setup : Setup) (events : List Timed) (number : ℕ)
+        → kept_times number (run setup events)
+        + times number (all_closed (history setup events)) ≤ 1 }
+    ensures given { (setup : Setup) (events : List Timed) (number : ℕ)
+        → IsGiven number (history setup events)
+        → kept_times number (run setup events)
+        + times number (all_closed (history setup events)) ≡ 1 }
+    ensures due { (state : State) (now : ℕ)
+        → AllByRecursion (λ a. max state.clock now < a.until) state.relays
+        → (over_at now state ≡ []) × ((at now state).relays ≡ state.relays) }
+    ensures new { (setup : Setup) (events : List Timed) (timed : Timed) (number : ℕ)
+        → IsGiven number (history setup events)
+        → Gives number (happening setup (run setup events) timed).output
+        → kept_times number (run setup events) ≡ 1 }
+    ensures late { (setup : Setup) (events : List Timed) (now : ℕ) (rules : Rules) (number : ℕ)
+        (peer : Endpoint) (bytes : List ℕ) → 1 ≤ times number (all_closed (history setup events))
+        → (step setup rules (run setup events) now (arrives number peer bytes)).output ≡ nothing }
+{}
+
+/// What is fit is granted, exactly, in whatever state. An Allocate request of a 5-tuple without
+/// an allocation, of a user below the quota, with room and a socket, opens one relayed address
+/// more and changes nothing else; so do two families, and of two the one that can be had, with
+/// the reason for the other (440 only if the server hasn't the family, 508 if the caller has no
+/// socket). A Refresh request sets the end, or ends; CreatePermission permits each peer for 300
+/// seconds; ChannelBind binds for 600, and permits for 300. Of other clients all stays. An
+/// Allocate request that comes again is answered with what the client has, and changes nothing.
+pub fn fit_is_granted()
+    ensures one { (setup : Setup) (rules : Rules) (state : State) (now : ℕ) (tuple : FiveTuple)
+        (user id : ℕ) (lifetime : Option ℕ) (want : Want) (offer : Offer)
+        → let s = at now state in let granted = granted_for lifetime setup.greatest_lifetime in
+        let until = s.clock + seconds granted in
+        let done = step setup rules state now
+        (asks tuple user (allocate id lifetime (want ∷ []))) in
+        IsFit setup tuple user want offer s
+        → (a : Relay) × IsOpened tuple user id until want.family offer s done.state a
+        × (done.output ≡ answers tuple (allocated (given_of a ∷ []) granted [])) }
+    ensures both { (setup : Setup) (rules : Rules) (state : State) (now : ℕ) (tuple : FiveTuple)
+        (user id : ℕ) (lifetime : Option ℕ) (want other : Want) (offer second : Offer)
+        → let s = at now state in let granted = granted_for lifetime setup.greatest_lifetime in
+        let until = s.clock + seconds granted in
+        let done = step setup rules state now
+        (asks tuple user (allocate id lifetime (want ∷ other ∷ []))) in
+        IsFit setup tuple user want offer s
+        → (want.family == other.family) ≡ false → setup.has_family other.family ≡ true
+        → other.ready ≡ Some second
+        → count_by (λ a. a.user == user) s.relays + 1 < setup.most_of_user
+        → length s.relays + 1 < setup.most_relays
+        → (a : Relay) × (b : Relay) × (between : State)
+        × IsOpened tuple user id until want.family offer s between a
+        × IsOpened tuple user id until other.family second between done.state b
+        × (done.output
+        ≡ answers tuple (allocated (given_of b ∷ given_of a ∷ []) granted [])) }
+    ensures one_of_two { (setup : Setup) (rules : Rules) (state : State) (now : ℕ)
+        (tuple : FiveTuple) (user id : ℕ) (lifetime : Option ℕ) (want other : Want) (offer : Offer)
+        → let s = at now state in let granted = granted_for lifetime setup.greatest_lifetime in
+        let until = s.clock + seconds granted in
+        let done = step setup rules state now
+        (asks tuple user (allocate id lifetime (want ∷ other ∷ []))) in
+        let code = if setup.has_family other.family then 508 else 440 in
+        IsFit setup tuple user want offer s → (want.family == other.family) ≡ false
+        → (setup.has_family other.family ≡ false) ⊎ (other.ready ≡ None)
+        → (a : Relay) × IsOpened tuple user id until want.family offer s done.state a
+        × (done.output ≡ answers tuple (allocated (given_of a ∷ []) granted
+        (record { family = other.family; code = code } ∷ []))) }
+    ensures refreshed { (setup : Setup) (rules : Rules) (state : State) (now : ℕ)
+        (tuple : FiveTuple) (user : ℕ) (family lifetime : Option ℕ)
+        → IsOwn tuple user (at now state)
+        → IsCovered tuple family (at now state)
+        → IsRefreshed tuple family (refreshed_for lifetime setup.greatest_lifetime) (at now state)
+        (step setup rules state now (asks tuple user (refresh family lifetime))) }
+    ensures permitted { (setup : Setup) (rules : Rules) (state : State) (now : ℕ)
+        (tuple : FiveTuple) (user : ℕ) (peers : List Endpoint)
+        → CanPermit setup rules tuple user peers (at now state)
+        → ArePermitted tuple peers (at now state)
+        (step setup rules state now (asks tuple user (permit peers))) }
+    ensures bound { (setup : Setup) (rules : Rules) (state : State) (now : ℕ) (tuple : FiveTuple)
+        (user number : ℕ) (peer : Endpoint)
+        → CanBind setup rules tuple user number peer (at now state)
+        → IsBound tuple number peer (at now state)
+        (step setup rules state now (asks tuple user (bind number peer))) }
+    ensures again { (setup : Setup) (rules : Rules) (events : List Timed) (now : ℕ)
+        (tuple : FiveTuple) (user id : ℕ) (lifetime : Option ℕ) (wants : List Want)
+        → let s = at now (run setup events) in IsAgain tuple user id s
+        → IsAgainTold tuple s (step setup rules (run setup events) now
+        (asks tuple user (allocate id lifetime wants))) }
+    ensures lifetimes { (wanted greatest : ℕ)
+        → (seconds wanted ≡ wanted * 1_000_000_000)
+        × (granted_for None greatest ≡ 600) × (refreshed_for None greatest ≡ 600)
+        × (granted_for (Some wanted) greatest ≡ max 600 (min wanted greatest))
+        × (refreshed_for (Some 0) greatest ≡ 0)
+        × (0 < wanted → refreshed_for (Some wanted) greatest ≡ max 600 (min wanted greatest)) }
+{}
+
+/// Each code is answered exactly where its reason is so, and no other. What is over takes no room.
+pub fn refusals_are_exact()
+    ensures allocates { (setup : Setup) (rules : Rules) (state : State) (now : ℕ)
+        (tuple : FiveTuple) (user id : ℕ) (lifetime : Option ℕ) (wants : List Want)
+        → AllocateRefusals setup rules state now tuple user id lifetime wants }
+    ensures refreshes { (setup : Setup) (rules : Rules) (state : State) (now : ℕ)
+        (tuple : FiveTuple) (user : ℕ) (family lifetime : Option ℕ)
+        → RefreshRefusals setup rules state now tuple user family lifetime }
+    ensures permits { (setup : Setup) (rules : Rules) (state : State) (now : ℕ) (tuple : FiveTuple)
+        (user : ℕ) (peers : List Endpoint)
+        → PermitRefusals setup rules state now tuple user peers }
+    ensures binds { (setup : Setup) (rules : Rules) (state : State) (now : ℕ) (tuple : FiveTuple)
+        (user number : ℕ) (peer : Endpoint)
+        → BindRefusals setup rules state now tuple user number peer }
+    ensures room { (now : ℕ) (peer : Endpoint) (peers : List Endpoint) (ps : List Permission)
+        → IsRoomByLive now peer peers ps }
+    ensures channel_room { (now number : ℕ) (peer : Endpoint) (cs : List Channel)
+        → IsChannelRoomByLive now number peer cs }
+    ensures unfit { (setup : Setup) (rules : Rules) (state : State) (now : ℕ) (tuple : FiveTuple)
+        (user code : ℕ) → UnfitRefusals setup rules state now tuple user code }
+{}
+
+/// No user ever has more than the quota. If the quotas of all who ever asked fit into the room,
+/// then whatever anybody does, a user finds as many free places as the quota leaves; an Allocate
+/// request of a user below the quota, from a 5-tuple without an allocation, with a socket that is
+/// ready, is granted; and a 508 says that the caller had no socket for a family that the server
+/// has.
+pub fn quotas_protect()
+    ensures within { (setup : Setup) (events : List Timed) (user : ℕ)
+        → count_by (λ a. a.user == user) (run setup events).relays ≤ setup.most_of_user }
+    ensures places { (setup : Setup) (users : List ℕ) (events : List Timed) (now user more : ℕ)
+        → AreBy users events → IsOneOf users user
+        → length users * setup.most_of_user ≤ setup.most_relays
+        → let s = at now (run setup events) in
+        count_by (λ a. a.user == user) s.relays + more ≤ setup.most_of_user
+        → length s.relays + more ≤ setup.most_relays }
+    ensures granted { (setup : Setup) (users : List ℕ) (events : List Timed) (rules : Rules)
+        (now : ℕ) (tuple : FiveTuple) (user id : ℕ) (lifetime : Option ℕ) (want : Want)
+        (offer : Offer) → AreBy users events → IsOneOf users user
+        → length users * setup.most_of_user ≤ setup.most_relays
+        → let s = at now (run setup events) in
+        let granted = granted_for lifetime setup.greatest_lifetime in
+        let done = step setup rules (run setup events) now
+        (asks tuple user (allocate id lifetime (want ∷ []))) in
+        IsFree tuple s → count_by (λ a. a.user == user) s.relays < setup.most_of_user
+        → setup.has_family want.family ≡ true → want.ready ≡ Some offer
+        → (a : Relay) × IsOpened tuple user id (s.clock + seconds granted) want.family offer s
+        done.state a
+        × (done.output ≡ answers tuple (allocated (given_of a ∷ []) granted [])) }
+    ensures unready { (setup : Setup) (users : List ℕ) (events : List Timed) (rules : Rules)
+        (now : ℕ) (tuple : FiveTuple) (user id : ℕ) (lifetime : Option ℕ) (wants : List Want)
+        → AreBy users events → IsOneOf users user
+        → length users * setup.most_of_user ≤ setup.most_relays
+        → (step setup rules (run setup events) now
+        (asks tuple user (allocate id lifetime wants))).output ≡ answers tuple (refused 508)
+        → IsUnready setup wants }
+{}
+
+/// Whatever comes in whatever order, what is kept never exceeds its bounds.
+pub fn table_is_bounded()
+    ensures relays { (setup : Setup) (events : List Timed)
+        → length (run setup events).relays ≤ setup.most_relays }
+    ensures each { (setup : Setup) (events : List Timed)
+        → AllByRecursion (IsWithin setup) (run setup events).relays }
+{}
+
+/// Whatever comes in whatever order, nothing is sent but: a response to the client that asked;
+/// and data between a client and a peer, or news of it, at a moment at which an allocation lives
+/// that this user opened or refreshed from this client, and what it needs was asked for since, by
+/// this user from this client: to a peer by a Send indication, and to a client, a permission of
+/// its IP address, within the last 300 seconds; by ChannelData to a peer, this channel with this
+/// very peer, within the last 600; by ChannelData to a client both. The rules allowed the peer
+/// when it was asked for, and allow it now.
+pub fn relaying_is_warranted()
+    ensures { (setup : Setup) (earlier : List Timed) (timed : Timed)
+        → let h = happening setup (run setup earlier) timed in
+        IsRight setup (history setup earlier) h.moment h.rules h.event h.output }
+{}
+
+/// The converse of `relaying_is_warranted`, so that a server that drops everything is none.
+/// Whatever else has come in between, from whomever: what needs to be asked for was asked for
+/// since the allocation was opened, in time, and answered with success; the lifetime that was
+/// granted last was never over; and the rules that are in force allow the peer. Then a Send
+/// indication and ChannelData go to the peer, by the client's socket; what the peer sends there
+/// reaches the client; and so does ICMP.
+pub fn what_is_permitted_works()
+    ensures out { (setup : Setup) (earlier : List Timed) (now : ℕ) (rules : Rules)
+        (tuple : FiveTuple) (number : ℕ) (peer : Endpoint) (whole : Bool) (bytes : List ℕ)
+        → let moment = (at now (run setup earlier)).clock in
+        IsDue (history setup earlier) moment tuple number peer (ArePermitting tuple peer moment)
+        → (rules.allows_ip peer.ip && rules.allows_port peer) ≡ true
+        → (whole ≡ true → setup.keeps_whole ≡ true)
+        → output_of setup earlier now rules (sends tuple peer whole bytes)
+        ≡ to_peer number peer whole bytes }
+    ensures on_channel { (setup : Setup) (earlier : List Timed) (now : ℕ) (rules : Rules)
+        (tuple : FiveTuple) (number : ℕ) (peer : Endpoint) (channel : ℕ) (bytes : List ℕ)
+        → let moment = (at now (run setup earlier)).clock in
+        IsDue (history setup earlier) moment tuple number peer
+        (AreBinding tuple channel peer moment)
+        → (rules.allows_ip peer.ip && rules.allows_port peer) ≡ true
+        → output_of setup earlier now rules (sends_on tuple channel bytes)
+        ≡ to_peer number peer false bytes }
+    ensures back { (setup : Setup) (earlier : List Timed) (now : ℕ) (rules : Rules)
+        (tuple : FiveTuple) (number : ℕ) (peer : Endpoint) (bytes : List ℕ)
+        → let moment = (at now (run setup earlier)).clock in
+        IsDue (history setup earlier) moment tuple number peer (ArePermitting tuple peer moment)
+        → rules.allows_ip peer.ip ≡ true
+        → Reaches tuple peer bytes (output_of setup earlier now rules (arrives number peer bytes)) }
+    ensures news { (setup : Setup) (earlier : List Timed) (now : ℕ) (rules : Rules)
+        (tuple : FiveTuple) (number : ℕ) (peer : Endpoint) (icmp : Icmp)
+        → let moment = (at now (run setup earlier)).clock in
+        IsDue (history setup earlier) moment tuple number peer (ArePermitting tuple peer moment)
+        → rules.allows_ip peer.ip ≡ true → setup.passes_icmp ≡ true
+        → is_reported peer.ip.family icmp.type_number ≡ true
+        → output_of setup earlier now rules (bounces number peer icmp)
+        ≡ to_client_icmp tuple peer icmp }
+{}
+
+/// To a client that has bound a channel to the peer less than 600 seconds ago, the peer's data
+/// goes as ChannelData with this number; if it has bound none to this peer, as a Data indication.
+/// One thing is sent, so never both.
+pub fn bound_channels_are_used()
+    ensures bound { (setup : Setup) (earlier : List Timed) (now : ℕ) (rules : Rules)
+        (tuple : FiveTuple) (number : ℕ) (peer : Endpoint) (channel : ℕ) (bytes : List ℕ)
+        → let moment = (at now (run setup earlier)).clock in
+        IsDue (history setup earlier) moment tuple number peer
+        (λ user since. ArePermitting tuple peer moment user since
+        × AreBinding tuple channel peer moment user since)
+        → rules.allows_ip peer.ip ≡ true
+        → output_of setup earlier now rules (arrives number peer bytes)
+        ≡ to_client_on tuple channel bytes }
+    ensures unbound { (setup : Setup) (earlier : List Timed) (now : ℕ) (rules : Rules)
+        (tuple : FiveTuple) (number : ℕ) (peer : Endpoint) (bytes : List ℕ)
+        → let moment = (at now (run setup earlier)).clock in
+        IsDue (history setup earlier) moment tuple number peer (ArePermitting tuple peer moment)
+        → ¬ (IsBoundTo tuple peer moment (history setup earlier)) → rules.allows_ip peer.ip ≡ true
+        → output_of setup earlier now rules (arrives number peer bytes)
+        ≡ to_client tuple peer bytes }
+{}
+
+/// A flow is what may be relayed on a channel without the machine being asked. Until it ends, the
+/// machine relays so both ways: ChannelData to this peer by this socket, and what this peer sends
+/// there as ChannelData with this number, if the rules allow the peer. It stays so, whatever comes,
+/// but accepted requests of this client and what the caller ends. There is a flow if and only if
+/// both directions are relayed, and it ends with the first of the three: the relayed address, the
+/// channel, and the permission of the peer's IP address. What the machine relays so, until one
+/// moment and no longer, is the flow; and a socket and a peer are of one flow.
+pub fn flows_are_right()
+    ensures out { (setup : Setup) (earlier : List Timed) (tuple : FiveTuple) (channel : ℕ)
+        (flow : Flow) (now : ℕ) (rules : Rules) (bytes : List ℕ)
+        → flow_of (run setup earlier) tuple channel ≡ Some flow → now < flow.until
+        → (rules.allows_ip flow.peer.ip && rules.allows_port flow.peer) ≡ true
+        → output_of setup earlier now rules (sends_on tuple channel bytes)
+        ≡ to_peer flow.number flow.peer false bytes }
+    ensures back { (setup : Setup) (earlier : List Timed) (tuple : FiveTuple) (channel : ℕ)
+        (flow : Flow) (now : ℕ) (rules : Rules) (bytes : List ℕ)
+        → flow_of (run setup earlier) tuple channel ≡ Some flow → now < flow.until
+        → rules.allows_ip flow.peer.ip ≡ true
+        → output_of setup earlier now rules (arrives flow.number flow.peer bytes)
+        ≡ to_client_on tuple channel bytes }
+    ensures lasting { (setup : Setup) (later earlier : List Timed) (tuple : FiveTuple)
+        (channel user : ℕ) (flow : Flow)
+        → flow_of (run setup earlier) tuple channel ≡ Some flow
+        → AllByRecursion (λ a. a.number ≡ flow.number → a.user ≡ user) (run setup earlier).relays
+        → IsLeft setup tuple user flow.number later earlier
+        → (run setup (later ++ earlier)).clock < flow.until
+        → (flow_of (run setup (later ++ earlier)) tuple channel ≡ Some flow)
+        × IsRelayed setup (later ++ earlier) tuple channel flow }
+    ensures exact { (setup : Setup) (earlier : List Timed) (tuple : FiveTuple) (channel number : ℕ)
+        (peer : Endpoint) (now : ℕ) (rules : Rules) (bytes other : List ℕ)
+        → output_of setup earlier now rules (sends_on tuple channel bytes)
+        ≡ to_peer number peer false bytes
+        → output_of setup earlier now rules (arrives number peer other)
+        ≡ to_client_on tuple channel other
+        → (flow : Flow) × (flow_of (run setup earlier) tuple channel ≡ Some flow)
+        × (flow.number ≡ number) × (flow.peer ≡ peer) × (now < flow.until) }
+    ensures least { (setup : Setup) (earlier : List Timed) (tuple : FiveTuple) (channel : ℕ)
+        (flow : Flow) → flow_of (run setup earlier) tuple channel ≡ Some flow
+        → ((run setup earlier).clock < flow.until)
+        × IsFirstEnd tuple channel flow (run setup earlier) }
+    ensures determined { (setup : Setup) (earlier : List Timed) (tuple : FiveTuple) (channel : ℕ)
+        (flow : Flow) → (run setup earlier).clock < flow.until
+        → IsRelayed setup earlier tuple channel flow
+        → ((now : ℕ) (rules : Rules) (bytes other : List ℕ)
+        → output_of setup earlier now rules (sends_on tuple channel bytes)
+        ≡ to_peer flow.number flow.peer false bytes
+        → output_of setup earlier now rules (arrives flow.number flow.peer other)
+        ≡ to_client_on tuple channel other → now < flow.until)
+        → flow_of (run setup earlier) tuple channel ≡ Some flow }
+    ensures one { (setup : Setup) (earlier : List Timed) (tuple other : FiveTuple)
+        (channel second : ℕ) (flow : Flow) (until : ℕ)
+        → flow_of (run setup earlier) tuple channel ≡ Some flow
+        → flow_of (run setup earlier) other second ≡ Some (record flow { until = until })
+        → (tuple ≡ other) × (channel ≡ second) }
+{}
+
+/// A datagram that isn't a user's authentic request changes nothing but the clock, and for one
+/// that nothing live is for, nothing is done. All that comes later is as if it had not come. Time
+/// alone takes away what has ended and nothing else, and reports it.
+pub fn strangers_get_little()
+    ensures unchanged { (setup : Setup) (rules : Rules) (state : State) (now : ℕ) (event : Event)
+        → is_datagram event ≡ true → (step setup rules state now event).state ≡ at now state }
+    ensures quiet { (setup : Setup) (rules : Rules) (state : State) (now : ℕ) (event : Event)
+        → is_datagram event ≡ true → IsQuiet setup rules state now event }
+    ensures forgotten { (setup : Setup) (later : List Timed) (next stranger : Timed)
+        (earlier : List Timed) → is_datagram stranger.event ≡ true → stranger.now ≤ next.now
+        → IsForgotten setup later next stranger earlier }
+    ensures time { (setup : Setup) (rules : Rules) (state : State) (now : ℕ)
+        → step setup rules state now ticks
+        ≡ record { state = at now state; output = nothing; closes = over_at now state ++ [] } }
+{}
+
+/// What a client is answered, at which moments, and where its data and its peers' data go, is
+/// determined by what it does itself, what comes to a socket that it has got, and the answers to
+/// its Allocate requests (which depend on the quota, the room and the caller's sockets). So it
+/// sees the same of two runs in which these are the same, whatever others do. At all other events
+/// nothing is sent to it.
+pub fn clients_are_apart()
+    ensures alike { (setup : Setup) (tuple : FiveTuple) (one other : List Timed)
+        → own tuple (history setup one) ≡ own tuple (history setup other)
+        → sights tuple (history setup one) ≡ sights tuple (history setup other) }
+    ensures others { (setup : Setup) (tuple : FiveTuple) (events : List Timed) (timed : Timed)
+        → is_own tuple (history setup events) timed.event ≡ false
+        → comes_to tuple (happening setup (run setup events) timed).output ≡ false }
+{}
+
+/// Sessions, evaluated: what each event is answered with, and which sockets are to be closed; and
+/// the edges of the rules, with their moments to the nanosecond.
+pub fn sessions_go_so()
+    ensures session { outputs (history setup_1 session) ≡ expected }
+    ensures flood { outputs (history setup_1 flood) ≡ flood_expected }
+    ensures closed { closed_by (history setup_1 flood)
+        ≡ ([] ∷ [] ∷ (1 ∷ []) ∷ [] ∷ (0 ∷ []) ∷ [] ∷ []) }
+    ensures reported { all_closed (history setup_1 session) ≡ (1 ∷ 0 ∷ []) }
+    ensures dual { outputs (history setup_2 dual) ≡ dual_expected }
+    ensures requests { said setup_3 requests ≡ wanted requests }
+    ensures data { said setup_3 data_cases ≡ wanted data_cases }
+    ensures icmp { said setup_4 icmp_cases ≡ wanted icmp_cases }
+    ensures flows { map (λ c. flow_of (run setup_3 c.earlier) c.tuple c.channel) flow_cases
+        ≡ map (λ c. c.flow) flow_cases }
+    ensures held { held_said setup_3 held_cases ≡ map (λ c. c.told) held_cases }
+    ensures held_tokens { held_tokens setup_3 held_cases ≡ map (λ c. c.token) held_cases }
+{}
+
+/// EVEN-PORT with its bit, and RESERVATION-TOKEN: a run with reservations is a run of the
+/// machine, so all laws hold of it. What is fit is reserved, for 30 seconds; its token serves its
+/// user, and once; another opens nothing. A user never holds more than the quota.
+pub fn reservations_are_kept()
+    ensures state { (setup : Setup) (events : List OuterTimed)
+        → (outer_run setup events).state ≡ run setup (inner_run setup events) }
+    ensures outputs { (setup : Setup) (events : List OuterTimed)
+        → outer_outputs setup events ≡ outputs (history setup (inner_run setup events)) }
+    ensures few { (setup : Setup) (events : List OuterTimed) (user : ℕ)
+        → count_by (is_users_held user) (outer_run setup events).held ≤ setup.most_of_user }
+    ensures reserved { (setup : Setup) (rules : Rules) (h : Holding) (now : ℕ) (tuple : FiveTuple)
+        (user id : ℕ) (lifetime : Option ℕ) (want : Want) (offer next : Offer) (token : ℕ)
+        → let s = at now h.state in let held = held_at now h in
+        let r = reserved_by s.clock tuple user id want next token in
+        let done = outer_step setup rules h now
+        (reserves tuple user id lifetime want (Some next) token) in
+        IsFit setup tuple user want offer s
+        → count_by (is_users_held user) held < setup.most_of_user
+        → (done.step
+        ≡ step setup rules h.state now (asks tuple user (allocate id lifetime (want ∷ []))))
+        × (done.token ≡ Some token) × (done.holding.held ≡ r ∷ held) }
+    ensures claimed { (setup : Setup) (rules : Rules) (h : Holding) (now : ℕ) (tuple : FiveTuple)
+        (user id : ℕ) (lifetime : Option ℕ) (token : ℕ) (r : Reservation)
+        → let done = outer_step setup rules h now (claims tuple user id lifetime token) in
+        find (is_claim user token) (held_at now h) ≡ Some r
+        → IsFit setup tuple user (reserved_want r) r.offer (at now h.state)
+        → (done.step ≡ step setup rules h.state now
+        (asks tuple user (allocate id lifetime (reserved_want r ∷ []))))
+        × (find (is_token token) done.holding.held ≡ None) }
+    ensures not_claimed { (setup : Setup) (rules : Rules) (h : Holding) (now : ℕ)
+        (tuple : FiveTuple) (user id : ℕ) (lifetime : Option ℕ) (token : ℕ)
+        → AllByRecursion (λ r. ¬ ((r.token ≡ token) × (r.user ≡ user))) (held_at now h)
+        → (outer_step setup rules h now (claims tuple user id lifetime token)).holding.state.relays
+        ≡ (at now h.state).relays }
+{}
+
+/// The tests by which the definitions compare addresses and 5-tuples are equality.
+pub fn tests_are_equality()
+    ensures ips { (a b : Ip) → (is_ip a b ≡ true) ↔ (a ≡ b) }
+    ensures endpoints { (a b : Endpoint) → (is_endpoint a b ≡ true) ↔ (a ≡ b) }
+    ensures tuples { (a b : FiveTuple) → (is_tuple a b ≡ true) ↔ (a ≡ b) }
+{}
