@@ -8,13 +8,13 @@ use Rattle.stun_endpoints.specs.declared.endpoints.Endpoint.{Endpoint}
 use Rattle.stun_endpoints.specs.declared.endpoints.FiveTuple.{FiveTuple}
 use Rattle.stun_endpoints.specs.Endpoints.{is_tuple}
 use Rattle.turn_machine.specs.Lists.{SomeOf}
-use Rattle.turn_machine.specs.Relays.{seconds, Channel, Relay, Setup, Rules, State, is_live, is_of, is_for, is_users, is_his, is_at, is_permitted, is_channel, is_channel_of}
+use Rattle.turn_machine.specs.Relays.{seconds, Channel, Relay, Setup, Rules, State, is_live, is_of, is_for, is_users, is_owned, is_at, is_permitted, is_channel, is_channel_of}
 use Rattle.turn_machine.specs.Events.{Want, Given, Request, allocate, unfit_allocate, refresh, permit, bind, unfit, Event, asks, sends, sends_on, arrives, bounces, ends, ends_user, ticks, allocated, refreshed, Output, answers}
 use Rattle.turn_machine.specs.Times.{at, granted_for, refreshed_for}
 use Rattle.turn_machine.specs.Opening.{opened, opens, given_to, missing_to}
-use Rattle.turn_machine.specs.Rows.{row, has_any, is_anothers, permissions_after, clashes, is_bound_otherwise, with_channel, fault}
+use Rattle.turn_machine.specs.Rows.{row, has_any, is_of_another, permissions_after, clashes, is_bound_otherwise, with_channel, fault}
 use Rattle.turn_machine.specs.Steps.{Step, changed, closing, is_wanted, lasting, permitting, binding, keeping, refreshes, fulfils, is_again, answers_again, serves, happens, step}
-use Rattle.turn_machine.specs.Runs.{Timed, Happening, begun, run, happening, history}
+use Rattle.turn_machine.specs.Runs.{Timed, Happening, initial_state, run, happening, history}
 use Rattle.turn_machine.specs.Granting.{given_of}
 use Rattle.turn_machine.proofs.AddressesLemmas.{tuple_same}
 use Rattle.turn_machine.proofs.ListsLemmas.{each_map, each_filter, any_none, find_true, left_false, count_filter}
@@ -97,11 +97,11 @@ Made clock next all = record { clock = clock; next = next; relays = all }
 
 -- ---- The same fault
 
-anothers_ours : (tuple : FiveTuple) (user : ℕ) → IsOurs tuple (is_anothers tuple user)
+anothers_ours : (tuple : FiveTuple) (user : ℕ) → IsOurs tuple (is_of_another tuple user)
 anothers_ours tuple user a off = left_false (is_of tuple a) (not (is_users user a)) off
 
-his_ours : (tuple : FiveTuple) (user : ℕ) (more : Relay → Bool) → IsOurs tuple (λ a. is_his tuple user a && more a)
-his_ours tuple user more a off = left_false (is_his tuple user a) (more a) (left_false (is_of tuple a) (is_users user a) off)
+his_ours : (tuple : FiveTuple) (user : ℕ) (more : Relay → Bool) → IsOurs tuple (λ a. is_owned tuple user a && more a)
+his_ours tuple user more a off = left_false (is_owned tuple user a) (more a) (left_false (is_of tuple a) (is_users user a) off)
 
 for_ours : (tuple : FiveTuple) (family : ℕ) → IsOurs tuple (is_for tuple family)
 for_ours tuple family a off = left_false (is_of tuple a) (a.family == family) off
@@ -119,16 +119,16 @@ fault_same : (setup : Setup) (rules : Rules) (tuple : FiveTuple) (user : ℕ) (r
 fault_same setup rules tuple user (allocate id lifetime wants) c n m one other isnt same = absurd (false≢true (sym isnt))
 fault_same setup rules tuple user (unfit_allocate code) c n m one other isnt same = ap (λ (x : Bool). row x 437 (Some code)) (same_any tuple (is_of tuple) (λ a off. off) one other same)
 fault_same setup rules tuple user (refresh family lifetime) c n m one other isnt same =
-    own_same (list_any (is_of tuple) one) (list_any (is_of tuple) other) (list_any (is_anothers tuple user) one) (list_any (is_anothers tuple user) other) (row (not (has_wanted tuple family (Made c n one))) 443 None) (row (not (has_wanted tuple family (Made c m other))) 443 None)
-    (same_any tuple (is_of tuple) (λ a off. off) one other same) (same_any tuple (is_anothers tuple user) (anothers_ours tuple user) one other same)
+    own_same (list_any (is_of tuple) one) (list_any (is_of tuple) other) (list_any (is_of_another tuple user) one) (list_any (is_of_another tuple user) other) (row (not (has_wanted tuple family (Made c n one))) 443 None) (row (not (has_wanted tuple family (Made c m other))) 443 None)
+    (same_any tuple (is_of tuple) (λ a off. off) one other same) (same_any tuple (is_of_another tuple user) (anothers_ours tuple user) one other same)
     (ap (λ (x : Bool). row (not x) 443 None) (wanted_same tuple family c n m one other same))
 fault_same setup rules tuple user (permit peers) c n m one other isnt same =
     let allowed = list_all (λ (peer : Endpoint). rules.allows_ip peer.ip) peers in
     let lacks = lacks_permissions setup c tuple user peers in
     let families = all_same (λ (peer : Endpoint). has_of tuple peer.ip.family (Made c n one)) (λ (peer : Endpoint). has_of tuple peer.ip.family (Made c m other)) (λ peer. same_any tuple (is_for tuple peer.ip.family) (for_ours tuple peer.ip.family) one other same) peers in
     let room = same_any tuple lacks (his_ours tuple user (λ a. nat_lt setup.most_permissions (length (permissions_after c peers a)))) one other same in
-    own_same (list_any (is_of tuple) one) (list_any (is_of tuple) other) (list_any (is_anothers tuple user) one) (list_any (is_anothers tuple user) other) (permit_rows setup rules (Made c n one) tuple user peers) (permit_rows setup rules (Made c m other) tuple user peers)
-    (same_any tuple (is_of tuple) (λ a off. off) one other same) (same_any tuple (is_anothers tuple user) (anothers_ours tuple user) one other same)
+    own_same (list_any (is_of tuple) one) (list_any (is_of tuple) other) (list_any (is_of_another tuple user) one) (list_any (is_of_another tuple user) other) (permit_rows setup rules (Made c n one) tuple user peers) (permit_rows setup rules (Made c m other) tuple user peers)
+    (same_any tuple (is_of tuple) (λ a off. off) one other same) (same_any tuple (is_of_another tuple user) (anothers_ours tuple user) one other same)
     (ap (λ (x : Bool). row (not x) 443 (row (not allowed) 403 (row (list_any lacks one) 508 None))) families ∙ ap (λ (x : Bool). row (not (have_families tuple peers (Made c m other))) 443 (row (not allowed) 403 (row x 508 None))) room)
 fault_same setup rules tuple user (bind number peer) c n m one other isnt same =
     let number_is = is_channel_number setup number in
@@ -139,16 +139,16 @@ fault_same setup rules tuple user (bind number peer) c n m one other isnt same =
     let e1 = same_any tuple bound (λ a off. left_false (is_of tuple a) (list_any (clashes c number peer) a.channels) off) one other same in
     let e2 = same_any tuple (is_for tuple peer.ip.family) (for_ours tuple peer.ip.family) one other same in
     let e3 = same_any tuple lacks (his_ours tuple user (λ a. nat_lt setup.most_permissions (length (permissions_after c (peer ∷ []) a)))) one other same in
-    let e4 = same_any tuple lacks_one (his_ours tuple user (λ a. nat_lt setup.most_channels (length (with_channel c number peer a.channels)))) one other same in
-    own_same (list_any (is_of tuple) one) (list_any (is_of tuple) other) (list_any (is_anothers tuple user) one) (list_any (is_anothers tuple user) other) (bind_rows setup rules (Made c n one) tuple user number peer) (bind_rows setup rules (Made c m other) tuple user number peer)
-    (same_any tuple (is_of tuple) (λ a off. off) one other same) (same_any tuple (is_anothers tuple user) (anothers_ours tuple user) one other same)
+    let e4 = same_any tuple lacks_one (his_ours tuple user (λ a. (peer.ip.family == a.family) && nat_lt setup.most_channels (length (with_channel c number peer a.channels)))) one other same in
+    own_same (list_any (is_of tuple) one) (list_any (is_of tuple) other) (list_any (is_of_another tuple user) one) (list_any (is_of_another tuple user) other) (bind_rows setup rules (Made c n one) tuple user number peer) (bind_rows setup rules (Made c m other) tuple user number peer)
+    (same_any tuple (is_of tuple) (λ a off. off) one other same) (same_any tuple (is_of_another tuple user) (anothers_ours tuple user) one other same)
     (ap (λ (x : Bool). row (not number_is) 400 (row x 400 (row (not (list_any (is_for tuple peer.ip.family) one)) 443 (row (not allowed) 403 (row (list_any lacks one || list_any lacks_one one) 508 None))))) e1
     ∙ (ap (λ (x : Bool). row (not number_is) 400 (row (list_any bound other) 400 (row (not x) 443 (row (not allowed) 403 (row (list_any lacks one || list_any lacks_one one) 508 None))))) e2
     ∙ (ap (λ (x : Bool). row (not number_is) 400 (row (list_any bound other) 400 (row (not (list_any (is_for tuple peer.ip.family) other)) 443 (row (not allowed) 403 (row (x || list_any lacks_one one) 508 None))))) e3
     ∙ ap (λ (x : Bool). row (not number_is) 400 (row (list_any bound other) 400 (row (not (list_any (is_for tuple peer.ip.family) other)) 443 (row (not allowed) 403 (row (list_any lacks other || x) 508 None))))) e4)))
 fault_same setup rules tuple user (unfit code) c n m one other isnt same =
-    own_same (list_any (is_of tuple) one) (list_any (is_of tuple) other) (list_any (is_anothers tuple user) one) (list_any (is_anothers tuple user) other) (Some code) (Some code)
-    (same_any tuple (is_of tuple) (λ a off. off) one other same) (same_any tuple (is_anothers tuple user) (anothers_ours tuple user) one other same) refl
+    own_same (list_any (is_of tuple) one) (list_any (is_of tuple) other) (list_any (is_of_another tuple user) one) (list_any (is_of_another tuple user) other) (Some code) (Some code)
+    (same_any tuple (is_of tuple) (λ a off. off) one other same) (same_any tuple (is_of_another tuple user) (anothers_ours tuple user) one other same) refl
 
 -- ---- The same step
 
@@ -158,7 +158,7 @@ pub record Alike (tuple : FiveTuple) (a b : Step) : Type 0 where
 
 changed_part : (tuple other : FiveTuple) (user : ℕ) (change : Relay → Relay) (c n m : ℕ) (one two : List Relay) → ((a : Relay) → (change a).tuple ≡ a.tuple) → Part tuple one ≡ Part tuple two → Part tuple (changed other user change (Made c n one)).relays ≡ Part tuple (changed other user change (Made c m two)).relays
 changed_part tuple other user change c n m one two tuples same =
-    let f = λ (a : Relay). cond (is_his other user a) (change a) a in
+    let f = λ (a : Relay). cond (is_owned other user a) (change a) a in
     let keeps : (a : Relay) → is_of tuple (f a) ≡ is_of tuple a = λ a. ap (λ (t : FiveTuple). is_tuple tuple t) (his_same (λ b. b.tuple) other user change tuples a) in
     filter_map_own (is_of tuple) f keeps one ∙ (ap (λ (l : List Relay). map f l) same ∙ sym (filter_map_own (is_of tuple) f keeps two))
 
@@ -172,10 +172,10 @@ by_granted false x y x' y' P p q = q
 
 refresh_same : (tuple : FiveTuple) (user granted : ℕ) (family : Option ℕ) (c n m : ℕ) (one other : List Relay) → Part tuple one ≡ Part tuple other → Alike tuple (refreshes tuple user family granted (Made c n one)) (refreshes tuple user family granted (Made c m other))
 refresh_same tuple user granted family c n m one other same =
-    let test = λ (a : Relay). is_his tuple user a && is_wanted family a in
+    let test = λ (a : Relay). is_owned tuple user a && is_wanted family a in
     let change = lasting family (c + seconds granted) in
-    let told = answers tuple (refreshed granted) in
-    by_granted (granted == 0) (closing test told (Made c n one)) (keeping (changed tuple user change (Made c n one)) told) (closing test told (Made c m other)) (keeping (changed tuple user change (Made c m other)) told) (Alike tuple)
+    let reply = answers tuple (refreshed granted) in
+    by_granted (granted == 0) (closing test reply (Made c n one)) (keeping (changed tuple user change (Made c n one)) reply) (closing test reply (Made c m other)) (keeping (changed tuple user change (Made c m other)) reply) (Alike tuple)
     (record { output = refl; part = without_part tuple test one other same })
     (record { output = refl; part = changed_part tuple tuple user change c n m one other (lasting_same (λ b. b.tuple) family (c + seconds granted) (λ _. refl)) same })
 
@@ -215,8 +215,8 @@ serve_same setup rules tuple user request c n m one other isnt same =
 
 -- ---- Allocate: with the same answer, the same is kept
 
-again_same : (tuple : FiveTuple) (user id : ℕ) (one other : List Relay) → Part tuple one ≡ Part tuple other → list_any (λ a. is_his tuple user a && (a.opened_by == id)) one ≡ list_any (λ a. is_his tuple user a && (a.opened_by == id)) other
-again_same tuple user id one other same = same_any tuple (λ a. is_his tuple user a && (a.opened_by == id)) (his_ours tuple user (λ a. a.opened_by == id)) one other same
+again_same : (tuple : FiveTuple) (user id : ℕ) (one other : List Relay) → Part tuple one ≡ Part tuple other → list_any (λ a. is_owned tuple user a && (a.opened_by == id)) one ≡ list_any (λ a. is_owned tuple user a && (a.opened_by == id)) other
+again_same tuple user id one other same = same_any tuple (λ a. is_owned tuple user a && (a.opened_by == id)) (his_ours tuple user (λ a. a.opened_by == id)) one other same
 
 -- a relayed address as it was opened, from what the client was given
 abbrev from_given : FiveTuple → (user id until : ℕ) → Given → Relay
@@ -242,12 +242,12 @@ PartOf tuple s = Part tuple s.state.relays
 fulfilled_same : (setup : Setup) (tuple : FiveTuple) (user id : ℕ) (lifetime : Option ℕ) (wants : List Want) (c n m : ℕ) (one other : List Relay) → list_any (is_of tuple) one ≡ false → list_any (is_of tuple) other ≡ false
     → (fulfils setup tuple user (allocate id lifetime wants) (Made c n one)).output ≡ (fulfils setup tuple user (allocate id lifetime wants) (Made c m other)).output
     → PartOf tuple (fulfils setup tuple user (allocate id lifetime wants) (Made c n one)) ≡ PartOf tuple (fulfils setup tuple user (allocate id lifetime wants) (Made c m other))
-fulfilled_same setup tuple user id lifetime wants c n m one other free free_too told =
+fulfilled_same setup tuple user id lifetime wants c n m one other free free_too reply =
     let granted = granted_for lifetime setup.greatest_lifetime in
     let until = c + seconds granted in
     let a = opens setup tuple user id until wants (Made c n one) in
     let b = opens setup tuple user id until wants (Made c m other) in
-    let e : answers tuple (allocated (given_to tuple a) granted (missing_to setup tuple wants a)) ≡ answers tuple (allocated (given_to tuple b) granted (missing_to setup tuple wants b)) = told in
+    let e : answers tuple (allocated (given_to tuple a) granted (missing_to setup tuple wants a)) ≡ answers tuple (allocated (given_to tuple b) granted (missing_to setup tuple wants b)) = reply in
     let given_is : given_to tuple a ≡ given_to tuple b = cc in
     let soon = later c granted (granted_least lifetime setup.greatest_lifetime) in
     part_from tuple user id until a.relays (opened_from setup tuple user id until wants (Made c n one) soon free)
@@ -267,22 +267,22 @@ allocate_same setup rules tuple user id lifetime wants c n m one other same =
     let Goal = λ (a b : Step). a.output ≡ b.output → PartOf tuple a ≡ PartOf tuple b in
     let agains = again_same tuple user id one other same in
     serve_cases setup rules tuple user r s (λ a. Goal a (serves setup rules tuple user r t))
-    (λ code new is told. same ∙ ap (λ (b : Step). PartOf tuple b) (sym (refusal_is setup rules tuple user code r t (refused_for setup rules tuple user r t code (sym told)))))
+    (λ code new is reply. same ∙ ap (λ (b : Step). PartOf tuple b) (sym (refusal_is setup rules tuple user code r t (refused_for setup rules tuple user r t code (sym reply)))))
     (λ again. serve_cases setup rules tuple user r t (λ b. Goal (keeping s (answers_again setup tuple r s)) b) (λ _ _ _ _. same) (λ _ _. same) (λ new _. absurd (false≢true (sym new ∙ (sym agains ∙ again)))))
     (λ new fit. serve_cases setup rules tuple user r t (λ b. Goal (fulfils setup tuple user r s) b)
-    (λ code _ _ told. absurd cc)
+    (λ code _ _ reply. absurd cc)
     (λ again. absurd (false≢true (sym new ∙ (agains ∙ again))))
-    (λ _ fit_too told. fulfilled_same setup tuple user id lifetime wants c n m one other (fault_free setup rules tuple user id lifetime wants s fit) (fault_free setup rules tuple user id lifetime wants t fit_too) told))
+    (λ _ fit_too reply. fulfilled_same setup tuple user id lifetime wants c n m one other (fault_free setup rules tuple user id lifetime wants s fit) (fault_free setup rules tuple user id lifetime wants t fit_too) reply))
 
 asks_same : (setup : Setup) (rules : Rules) (tuple : FiveTuple) (user : ℕ) (request : Request) (c n m : ℕ) (one other : List Relay) → Part tuple one ≡ Part tuple other
     → (is_allocate (asks tuple user request) ≡ true → (serves setup rules tuple user request (Made c n one)).output ≡ (serves setup rules tuple user request (Made c m other)).output)
     → Alike tuple (serves setup rules tuple user request (Made c n one)) (serves setup rules tuple user request (Made c m other))
-asks_same setup rules tuple user (allocate id lifetime wants) c n m one other same told = record { output = ap (λ (o : Output). seen tuple o) (told refl); part = allocate_same setup rules tuple user id lifetime wants c n m one other same (told refl) }
-asks_same setup rules tuple user (unfit_allocate code) c n m one other same told = serve_same setup rules tuple user (unfit_allocate code) c n m one other refl same
-asks_same setup rules tuple user (refresh family lifetime) c n m one other same told = serve_same setup rules tuple user (refresh family lifetime) c n m one other refl same
-asks_same setup rules tuple user (permit peers) c n m one other same told = serve_same setup rules tuple user (permit peers) c n m one other refl same
-asks_same setup rules tuple user (bind number peer) c n m one other same told = serve_same setup rules tuple user (bind number peer) c n m one other refl same
-asks_same setup rules tuple user (unfit code) c n m one other same told = serve_same setup rules tuple user (unfit code) c n m one other refl same
+asks_same setup rules tuple user (allocate id lifetime wants) c n m one other same reply = record { output = ap (λ (o : Output). seen tuple o) (reply refl); part = allocate_same setup rules tuple user id lifetime wants c n m one other same (reply refl) }
+asks_same setup rules tuple user (unfit_allocate code) c n m one other same reply = serve_same setup rules tuple user (unfit_allocate code) c n m one other refl same
+asks_same setup rules tuple user (refresh family lifetime) c n m one other same reply = serve_same setup rules tuple user (refresh family lifetime) c n m one other refl same
+asks_same setup rules tuple user (permit peers) c n m one other same reply = serve_same setup rules tuple user (permit peers) c n m one other refl same
+asks_same setup rules tuple user (bind number peer) c n m one other same reply = serve_same setup rules tuple user (bind number peer) c n m one other refl same
+asks_same setup rules tuple user (unfit code) c n m one other same reply = serve_same setup rules tuple user (unfit code) c n m one other refl same
 
 -- ---- Data
 
@@ -341,45 +341,45 @@ arrives_same tuple number f one other un once once_too same =
 
 event_same : (setup : Setup) (rules : Rules) (tuple : FiveTuple) (hs : List Happening) (event : Event) (c n m : ℕ) (one other : List Relay) → is_own tuple hs event ≡ true → ((k : ℕ) → count_by (is_at k) one ≤ 1) → ((k : ℕ) → count_by (is_at k) other ≤ 1) → Part tuple one ≡ Part tuple other
     → (is_allocate event ≡ true → (happens setup rules (Made c n one) event).output ≡ (happens setup rules (Made c m other) event).output) → Alike tuple (happens setup rules (Made c n one) event) (happens setup rules (Made c m other) event)
-event_same setup rules tuple hs (asks client user request) c n m one other mine once once_too same told =
+event_same setup rules tuple hs (asks client user request) c n m one other mine once once_too same reply =
     subst (λ (t : FiveTuple). (is_allocate (asks t user request) ≡ true → (serves setup rules t user request (Made c n one)).output ≡ (serves setup rules t user request (Made c m other)).output) → Alike tuple (serves setup rules t user request (Made c n one)) (serves setup rules t user request (Made c m other)))
-    (tuple_same tuple client mine) (asks_same setup rules tuple user request c n m one other same) told
-event_same setup rules tuple hs (sends client peer whole bytes) c n m one other mine once once_too same told = record {
-  output = subst (λ (t : FiveTuple). seen tuple (option_map_or (sent setup rules c peer whole bytes) (find (is_for t peer.ip.family) one) nothing) ≡ seen tuple (option_map_or (sent setup rules c peer whole bytes) (find (is_for t peer.ip.family) other) nothing))
-      (tuple_same tuple client mine) (ap (λ (o : Option Relay). seen tuple (option_map_or (sent setup rules c peer whole bytes) o nothing)) (same_find tuple (is_for tuple peer.ip.family) (for_ours tuple peer.ip.family) one other same));
+    (tuple_same tuple client mine) (asks_same setup rules tuple user request c n m one other same) reply
+event_same setup rules tuple hs (sends client peer dont_fragment bytes) c n m one other mine once once_too same reply = record {
+  output = subst (λ (t : FiveTuple). seen tuple (option_map_or (sent setup rules c peer dont_fragment bytes) (find (is_for t peer.ip.family) one) nothing) ≡ seen tuple (option_map_or (sent setup rules c peer dont_fragment bytes) (find (is_for t peer.ip.family) other) nothing))
+      (tuple_same tuple client mine) (ap (λ (o : Option Relay). seen tuple (option_map_or (sent setup rules c peer dont_fragment bytes) o nothing)) (same_find tuple (is_for tuple peer.ip.family) (for_ours tuple peer.ip.family) one other same));
   part = same;
 }
-event_same setup rules tuple hs (sends_on client channel bytes) c n m one other mine once once_too same told = record {
+event_same setup rules tuple hs (sends_on client channel bytes) c n m one other mine once once_too same reply = record {
   output = subst (λ (t : FiveTuple). seen tuple (option_map_or (sent_on rules c channel bytes) (find (has_channel c t channel) one) nothing) ≡ seen tuple (option_map_or (sent_on rules c channel bytes) (find (has_channel c t channel) other) nothing))
       (tuple_same tuple client mine)
       (ap (λ (o : Option Relay). seen tuple (option_map_or (sent_on rules c channel bytes) o nothing)) (same_find tuple (has_channel c tuple channel) (λ a off. left_false (is_of tuple a) (list_any (is_channel c channel) a.channels) off) one other same));
   part = same;
 }
-event_same setup rules tuple hs (arrives number peer bytes) c n m one other mine once once_too same told = record {
+event_same setup rules tuple hs (arrives number peer bytes) c n m one other mine once once_too same reply = record {
   output = arrives_same tuple number (received rules c peer bytes) one other (λ a off. received_unseen rules c tuple peer bytes a off) (once number) (once_too number) same;
   part = same;
 }
-event_same setup rules tuple hs (bounces number peer icmp) c n m one other mine once once_too same told = record {
+event_same setup rules tuple hs (bounces number peer icmp) c n m one other mine once once_too same reply = record {
   output = arrives_same tuple number (bounced setup rules c peer icmp) one other (λ a off. bounced_unseen setup rules c tuple peer icmp a off) (once number) (once_too number) same;
   part = same;
 }
-event_same setup rules tuple hs (ends number) c n m one other mine once once_too same told = record { output = refl; part = without_part tuple (is_at number) one other same }
-event_same setup rules tuple hs (ends_user user) c n m one other mine once once_too same told = record { output = refl; part = without_part tuple (is_users user) one other same }
-event_same setup rules tuple hs ticks c n m one other mine once once_too same told = absurd (false≢true mine)
+event_same setup rules tuple hs (ends number) c n m one other mine once once_too same reply = record { output = refl; part = without_part tuple (is_at number) one other same }
+event_same setup rules tuple hs (ends_user user) c n m one other mine once once_too same reply = record { output = refl; part = without_part tuple (is_users user) one other same }
+event_same setup rules tuple hs ticks c n m one other mine once once_too same reply = absurd (false≢true mine)
 
 -- ---- What isn't the client's leaves its part
 
 abbrev Leaves : FiveTuple → State → Step → Type 0
 Leaves tuple s after = Part tuple after.state.relays ≡ Part tuple s.relays
 
-theirs : (tuple other : FiveTuple) (user : ℕ) (a : Relay) → is_tuple tuple other ≡ false → is_of tuple a ≡ true → is_his other user a ≡ false
+theirs : (tuple other : FiveTuple) (user : ℕ) (a : Relay) → is_tuple tuple other ≡ false → is_of tuple a ≡ true → is_owned other user a ≡ false
 theirs tuple other user a apart is =
-    not_true (is_his other user a) (λ his. differs tuple other apart (tuple_same tuple a.tuple is ∙ sym (tuple_same other a.tuple (and_parts (is_of other a) (is_users user a) his).0)))
+    not_true (is_owned other user a) (λ his. differs tuple other apart (tuple_same tuple a.tuple is ∙ sym (tuple_same other a.tuple (and_parts (is_of other a) (is_users user a) his).0)))
 
 changed_leaves : (tuple other : FiveTuple) (user : ℕ) (change : Relay → Relay) (s : State) → ((a : Relay) → (change a).tuple ≡ a.tuple) → is_tuple tuple other ≡ false → Part tuple (changed other user change s).relays ≡ Part tuple s.relays
 changed_leaves tuple other user change s tuples apart =
-    filter_map_other (is_of tuple) (λ a. cond (is_his other user a) (change a) a)
-    (λ a is. cond-false (is_his other user a) (change a) a (theirs tuple other user a apart is))
+    filter_map_other (is_of tuple) (λ a. cond (is_owned other user a) (change a) a)
+    (λ a is. cond-false (is_owned other user a) (change a) a (theirs tuple other user a apart is))
     (λ a isnt. ap (λ (t : FiveTuple). is_tuple tuple t) (his_same (λ b. b.tuple) other user change tuples a) ∙ isnt) s.relays
 
 fulfil_leaves : (setup : Setup) (tuple other : FiveTuple) (user : ℕ) (request : Request) (s : State) → is_tuple tuple other ≡ false → Leaves tuple s (fulfils setup other user request s)
@@ -390,10 +390,10 @@ fulfil_leaves setup tuple other user (allocate id lifetime wants) s apart =
 fulfil_leaves setup tuple other user (unfit_allocate code) s apart = refl
 fulfil_leaves setup tuple other user (refresh family lifetime) s apart =
     let granted = refreshed_for lifetime setup.greatest_lifetime in
-    let test = λ (a : Relay). is_his other user a && is_wanted family a in
+    let test = λ (a : Relay). is_owned other user a && is_wanted family a in
     let change = lasting family (s.clock + seconds granted) in
     cond_both (granted == 0) (closing test (answers other (refreshed granted)) s) (keeping (changed other user change s) (answers other (refreshed granted))) (Leaves tuple s)
-    (λ _. filter_keeps (is_of tuple) (λ a. not (test a)) s.relays (each_always (λ a. is_of tuple a ≡ true → not (test a) ≡ true) (λ a is. ap not (left_false (is_his other user a) (is_wanted family a) (theirs tuple other user a apart is))) s.relays))
+    (λ _. filter_keeps (is_of tuple) (λ a. not (test a)) s.relays (each_always (λ a. is_of tuple a ≡ true → not (test a) ≡ true) (λ a is. ap not (left_false (is_owned other user a) (is_wanted family a) (theirs tuple other user a apart is))) s.relays))
     (λ _. changed_leaves tuple other user change s (lasting_same (λ b. b.tuple) family (s.clock + seconds granted) (λ _. refl)) apart)
 fulfil_leaves setup tuple other user (permit peers) s apart = changed_leaves tuple other user (permitting s.clock peers) s (λ _. refl) apart
 fulfil_leaves setup tuple other user (bind number peer) s apart = changed_leaves tuple other user (binding s.clock number peer) s (binding_same (λ b. b.tuple) s.clock number peer (λ _. refl)) apart
@@ -422,7 +422,7 @@ asked_it tuple user hs a b of mine =
 
 event_leaves : (setup : Setup) (rules : Rules) (tuple : FiveTuple) (hs : List Happening) (event : Event) (s : State) → AllByRecursion (IsBacked hs) s.relays → is_own tuple hs event ≡ false → Leaves tuple s (happens setup rules s event)
 event_leaves setup rules tuple hs (asks other user request) s backed isnt = serve_cases setup rules other user request s (Leaves tuple s) (λ _ _ _. refl) (λ _. refl) (λ _ _. fulfil_leaves setup tuple other user request s isnt)
-event_leaves setup rules tuple hs (sends other peer whole bytes) s backed isnt = refl
+event_leaves setup rules tuple hs (sends other peer dont_fragment bytes) s backed isnt = refl
 event_leaves setup rules tuple hs (sends_on other channel bytes) s backed isnt = refl
 event_leaves setup rules tuple hs (arrives number peer bytes) s backed isnt = refl
 event_leaves setup rules tuple hs (bounces number peer icmp) s backed isnt = refl
@@ -470,7 +470,7 @@ head_by setup tuple hs event event' rules rules' c c' n m one other events are c
     subst (λ (e : Event). HeadAlike setup tuple one other c n m event rules c' rules' e) events
     (subst (λ (r : Rules). HeadAlike setup tuple one other c n m event rules c' r event) are
     (subst (λ (k : ℕ). HeadAlike setup tuple one other c n m event rules k rules event) clocks
-    (λ told. event_same setup rules tuple hs event c n m one other mine once once_too same (told_same (is_allocate event) (happens setup rules (Made c n one) event).output (happens setup rules (Made c m other) event).output told))))
+    (λ reply. event_same setup rules tuple hs event c n m one other mine once once_too same (told_same (is_allocate event) (happens setup rules (Made c n one) event).output (happens setup rules (Made c m other) event).output reply))))
 
 abbrev HeadOf : Setup → List Timed → Timed → Step
 HeadOf setup events t = happens setup t.rules (at t.now (run setup events)) t.event
@@ -491,7 +491,7 @@ head_alike setup tuple one other t u mine alike same =
     let parts = same (max a.clock t.now) (omega arith) (omega (arith, moments)) in
     head_by setup tuple (history setup one) t.event u.event t.rules u.rules (max a.clock t.now) (max b.clock u.now) a.next b.next (filter (is_live (max a.clock t.now)) a.relays) (filter (is_live (max b.clock u.now)) b.relays)
     (ap (λ (o : Own). o.event) alike) (ap (λ (o : Own). o.rules) alike) moments mine (few setup one t.now) (few setup other u.now)
-    (parts ∙ ap (λ (k : ℕ). Part tuple (filter (is_live k) b.relays)) moments) (ap (λ (o : Own). o.told) alike)
+    (parts ∙ ap (λ (k : ℕ). Part tuple (filter (is_live k) b.relays)) moments) (ap (λ (o : Own). o.reply) alike)
 
 -- ---- The newest event of the client's
 
@@ -531,7 +531,7 @@ newest setup tuple (t ∷ events) o rest e =
 
 record Nothing (setup : Setup) (tuple : FiveTuple) (events : List Timed) : Type 0 where
   seen_is : sights tuple (history setup events) ≡ []
-  same : (s : State) → Same tuple begun s → Same tuple (run setup events) s
+  same : (s : State) → Same tuple initial_state s → Same tuple (run setup events) s
 
 no_own : (setup : Setup) (tuple : FiveTuple) (events : List Timed) → own tuple (history setup events) ≡ [] → Nothing setup tuple events
 no_own setup tuple [] e = record { seen_is = refl; same = λ s same. same }
@@ -558,7 +558,7 @@ runs_by setup tuple [] one other first second =
     let b = no_own setup tuple other second in
     record {
       seen_same = a.seen_is ∙ sym b.seen_is;
-      states = a.same (run setup other) (turned tuple (run setup other) begun (b.same begun (λ m _ _. refl)));
+      states = a.same (run setup other) (turned tuple (run setup other) initial_state (b.same initial_state (λ m _ _. refl)));
     }
 runs_by setup tuple (o ∷ os) one other first second =
     let a = newest setup tuple one o os first in
@@ -601,9 +601,9 @@ others_by : (setup : Setup) (tuple : FiveTuple) (events : List Timed) (now : ℕ
 others_by setup tuple events now rules (asks other user request) isnt =
     let a = serve_answers setup rules other user request (at now (run setup events)) in
     subst (λ (o : Output). comes_to tuple o ≡ false) (sym a.is) isnt
-others_by setup tuple events now rules (sends other peer whole bytes) isnt =
+others_by setup tuple events now rules (sends other peer dont_fragment bytes) isnt =
     let s = at now (run setup events) in
-    unsent_or tuple (sent setup rules s.clock peer whole bytes) (find (is_for other peer.ip.family) s.relays) (λ a. unsent_if tuple (is_permitted s.clock peer.ip a && (allows rules peer && (not whole || setup.keeps_whole))) (to_peer a.number peer whole bytes) refl)
+    unsent_or tuple (sent setup rules s.clock peer dont_fragment bytes) (find (is_for other peer.ip.family) s.relays) (λ a. unsent_if tuple (is_permitted s.clock peer.ip a && (allows rules peer && (not dont_fragment || setup.supports_dont_fragment))) (to_peer a.number peer dont_fragment bytes) refl)
 others_by setup tuple events now rules (sends_on other channel bytes) isnt =
     let s = at now (run setup events) in
     unsent_or tuple (sent_on rules s.clock channel bytes) (find (has_channel s.clock other channel) s.relays)

@@ -8,7 +8,7 @@ use Rattle.stun_endpoints.specs.declared.endpoints.Endpoint.{Endpoint}
 use Rattle.stun_endpoints.specs.declared.endpoints.FiveTuple.{FiveTuple}
 use Rattle.stun_endpoints.specs.Endpoints.{is_ip, is_tuple}
 use Rattle.turn_machine.specs.Lists.{SomeOf}
-use Rattle.turn_machine.specs.Relays.{seconds, Permission, Relay, Setup, Rules, State, is_live, is_of, is_users, is_his, is_at}
+use Rattle.turn_machine.specs.Relays.{seconds, Permission, Relay, Setup, Rules, State, is_live, is_of, is_users, is_owned, is_at}
 use Rattle.turn_machine.specs.Events.{Want, Request, allocate, unfit_allocate, refresh, permit, bind, unfit, Event, asks, sends, sends_on, arrives, bounces, ends, ends_user, ticks, allocated, refreshed, done, Output, answers}
 use Rattle.turn_machine.specs.Times.{at, granted_for, refreshed_for}
 use Rattle.turn_machine.specs.Opening.{opens, given_to, missing_to}
@@ -39,14 +39,14 @@ record Says (h : Happening) (now : ℕ) (rules : Rules) (tuple : FiveTuple) (use
   moment : h.moment ≡ now
   rules_are : h.rules ≡ rules
   asked : h.event ≡ asks tuple user request
-  told : h.output ≡ output
+  reply : h.output ≡ output
 
-same_asked : (tuple : FiveTuple) (user : ℕ) (a : Relay) (request : Request) → is_his tuple user a ≡ true → asks tuple user request ≡ asks a.tuple a.user request
+same_asked : (tuple : FiveTuple) (user : ℕ) (a : Relay) (request : Request) → is_owned tuple user a ≡ true → asks tuple user request ≡ asks a.tuple a.user request
 same_asked tuple user a request his =
     let both = and_parts (is_of tuple a) (is_users user a) his in
     ap (λ (t : FiveTuple). asks t user request) (tuple_same tuple a.tuple both.0) ∙ ap (λ (u : ℕ). asks a.tuple u request) (sym (eqb-true a.user user both.1))
 
-same_told : (tuple : FiveTuple) (user : ℕ) (a : Relay) → is_his tuple user a ≡ true → answers tuple done ≡ answers a.tuple done
+same_told : (tuple : FiveTuple) (user : ℕ) (a : Relay) → is_owned tuple user a ≡ true → answers tuple done ≡ answers a.tuple done
 same_told tuple user a his = ap (λ (t : FiveTuple). answers t done) (tuple_same tuple a.tuple (and_parts (is_of tuple a) (is_users user a) his).0)
 
 -- ---- Permissions
@@ -54,8 +54,8 @@ same_told tuple user a his = ap (λ (t : FiveTuple). answers t done) (tuple_same
 installed_one : (h : Happening) (since : List Happening) (tuple : FiveTuple) (user family now : ℕ) (request : Request) (peer : Endpoint) (ps : List Permission)
     → h.moment ≡ now → h.event ≡ asks tuple user request → h.output ≡ answers tuple done → names peer.ip request ≡ true → h.rules.allows_ip peer.ip ≡ true → peer.ip.family ≡ family
     → AllByRecursion (IsInstalled (h ∷ since) tuple user family) ps → AllByRecursion (IsInstalled (h ∷ since) tuple user family) (with_permission now peer.ip ps)
-installed_one h since tuple user family now request peer ps moment asked told named allowed same each = (
-  record { by = inl (record { request = request; asked = asked; named = named; allowed = allowed; succeeded = told; ends = ap (λ (m : ℕ). m + seconds 300) moment }); family_is = same },
+installed_one h since tuple user family now request peer ps moment asked reply named allowed same each = (
+  record { by = inl (record { request = request; asked = asked; named = named; allowed = allowed; succeeded = reply; ends = ap (λ (m : ℕ). m + seconds 300) moment }); family_is = same },
   each_filter (IsInstalled (h ∷ since) tuple user family) (is_other_permission now peer.ip) ps each,
 )
 
@@ -63,10 +63,10 @@ installed_all : (h : Happening) (since : List Happening) (tuple : FiveTuple) (us
     → h.moment ≡ now → h.event ≡ asks tuple user request → h.output ≡ answers tuple done
     → AllByRecursion (λ peer. (names peer.ip request ≡ true) × (h.rules.allows_ip peer.ip ≡ true) × (peer.ip.family ≡ family)) peers
     → AllByRecursion (IsInstalled (h ∷ since) tuple user family) ps → AllByRecursion (IsInstalled (h ∷ since) tuple user family) (with_permissions now peers ps)
-installed_all h since tuple user family now request [] ps moment asked told fit each = each
-installed_all h since tuple user family now request (peer ∷ peers) ps moment asked told fit each =
-    installed_one h since tuple user family now request peer (with_permissions now peers ps) moment asked told fit.0.0 fit.0.1 fit.0.2
-    (installed_all h since tuple user family now request peers ps moment asked told fit.1 each)
+installed_all h since tuple user family now request [] ps moment asked reply fit each = each
+installed_all h since tuple user family now request (peer ∷ peers) ps moment asked reply fit each =
+    installed_one h since tuple user family now request peer (with_permissions now peers ps) moment asked reply fit.0.0 fit.0.1 fit.0.2
+    (installed_all h since tuple user family now request peers ps moment asked reply fit.1 each)
 
 each_any : {X : Type 0} (R : X → X → Bool) → ((x : X) → R x x ≡ true) → (xs : List X) → AllByRecursion (λ x. list_any (R x) xs ≡ true) xs
 each_any R same [] = tt
@@ -84,15 +84,15 @@ named_of rules request a peers named allowed =
     (each_both (λ peer. names peer.ip request ≡ true) (λ peer. rules.allows_ip peer.ip ≡ true) (λ peer. (names peer.ip request ≡ true) × (rules.allows_ip peer.ip ≡ true)) (λ peer one other. (one, other)) peers named allowed)
 
 permitting_backed : (h : Happening) (hs : List Happening) (now : ℕ) (rules : Rules) (tuple : FiveTuple) (user : ℕ) (peers : List Endpoint) (a : Relay) → Says h now rules tuple user (permit peers) (answers tuple done)
-    → AllByRecursion (λ peer. rules.allows_ip peer.ip ≡ true) peers → is_his tuple user a ≡ true → IsBacked hs a → IsBacked (h ∷ hs) (permitting now peers a)
+    → AllByRecursion (λ peer. rules.allows_ip peer.ip ≡ true) peers → is_owned tuple user a ≡ true → IsBacked hs a → IsBacked (h ∷ hs) (permitting now peers a)
 permitting_backed h hs now rules tuple user peers a says allowed his b = record {
   since = h ∷ b.since;
   opening = b.opening;
   before = b.before;
   split = ap (λ (l : List Happening). h ∷ l) b.split;
   opens = b.opens;
-  kept = end_on h hs a b (ap (is_ended a.user a.number) says.asked) (not_refreshed a.tuple a.user a.family h (ap refreshed_in says.told));
-  permissions = installed_all h b.since a.tuple a.user a.family now (permit peers) (peers_of a peers) a.permissions says.moment (says.asked ∙ same_asked tuple user a (permit peers) his) (says.told ∙ same_told tuple user a his)
+  kept = end_on h hs a b (ap (is_ended a.user a.number) says.asked) (not_refreshed a.tuple a.user a.family h (ap refreshed_in says.reply));
+  permissions = installed_all h b.since a.tuple a.user a.family now (permit peers) (peers_of a peers) a.permissions says.moment (says.asked ∙ same_asked tuple user a (permit peers) his) (says.reply ∙ same_told tuple user a his)
       (subst (λ (r : Rules). AllByRecursion (λ peer. (names peer.ip (permit peers) ≡ true) × (r.allows_ip peer.ip ≡ true) × (peer.ip.family ≡ a.family)) (peers_of a peers)) (sym says.rules_are)
       (named_of rules (permit peers) a peers (each_any (λ p q. is_ip p.ip q.ip) (λ p. ip_is_itself p.ip) peers) allowed))
       (permissions_on h b.since a.tuple a.user a.family a.permissions b.permissions);
@@ -100,17 +100,17 @@ permitting_backed h hs now rules tuple user peers a says allowed his b = record 
 }
 
 binding_backed : (h : Happening) (hs : List Happening) (now : ℕ) (rules : Rules) (tuple : FiveTuple) (user number : ℕ) (peer : Endpoint) (a : Relay) → Says h now rules tuple user (bind number peer) (answers tuple done)
-    → rules.allows_ip peer.ip ≡ true → rules.allows_port peer ≡ true → is_his tuple user a ≡ true → (peer.ip.family == a.family) ≡ true → IsBacked hs a → IsBacked (h ∷ hs) (bound_after now number peer a)
+    → rules.allows_ip peer.ip ≡ true → rules.allows_port peer ≡ true → is_owned tuple user a ≡ true → (peer.ip.family == a.family) ≡ true → IsBacked hs a → IsBacked (h ∷ hs) (bound_after now number peer a)
 binding_backed h hs now rules tuple user number peer a says allowed port his of b =
     let asked = says.asked ∙ same_asked tuple user a (bind number peer) his in
-    let told = says.told ∙ same_told tuple user a his in record {
+    let reply = says.reply ∙ same_told tuple user a his in record {
       since = h ∷ b.since;
       opening = b.opening;
       before = b.before;
       split = ap (λ (l : List Happening). h ∷ l) b.split;
       opens = b.opens;
-      kept = end_on h hs a b (ap (is_ended a.user a.number) says.asked) (not_refreshed a.tuple a.user a.family h (ap refreshed_in says.told));
-      permissions = installed_all h b.since a.tuple a.user a.family now (bind number peer) (peers_of a (peer ∷ [])) a.permissions says.moment asked told
+      kept = end_on h hs a b (ap (is_ended a.user a.number) says.asked) (not_refreshed a.tuple a.user a.family h (ap refreshed_in says.reply));
+      permissions = installed_all h b.since a.tuple a.user a.family now (bind number peer) (peers_of a (peer ∷ [])) a.permissions says.moment asked reply
           (subst (λ (r : Rules). AllByRecursion (λ p. (names p.ip (bind number peer) ≡ true) × (r.allows_ip p.ip ≡ true) × (p.ip.family ≡ a.family)) (peers_of a (peer ∷ []))) (sym says.rules_are)
           (named_of rules (bind number peer) a (peer ∷ []) (ip_is_itself peer.ip, tt) (allowed, tt)))
           (permissions_on h b.since a.tuple a.user a.family a.permissions b.permissions);
@@ -119,7 +119,7 @@ binding_backed h hs now rules tuple user number peer a says allowed port his of 
           by = inl (record {
             asked = asked;
             allowed = subst (λ (r : Rules). allows r peer ≡ true) (sym says.rules_are) (and_from (rules.allows_ip peer.ip) (rules.allows_port peer) allowed port);
-            succeeded = told;
+            succeeded = reply;
             ends = ap (λ (m : ℕ). m + seconds 600) says.moment;
           });
           family_is = eqb-true peer.ip.family a.family of;
@@ -131,19 +131,19 @@ binding_backed h hs now rules tuple user number peer a says allowed port his of 
 -- ---- Refresh
 
 lasting_backed : (h : Happening) (hs : List Happening) (now : ℕ) (rules : Rules) (tuple : FiveTuple) (user granted : ℕ) (wanted lifetime : Option ℕ) (a : Relay) → Says h now rules tuple user (refresh wanted lifetime) (answers tuple (refreshed granted))
-    → IsBacked hs a → IsBacked (h ∷ hs) (cond (is_his tuple user a) (lasting wanted (now + seconds granted) a) a)
+    → IsBacked hs a → IsBacked (h ∷ hs) (cond (is_owned tuple user a) (lasting wanted (now + seconds granted) a) a)
 lasting_backed h hs now rules tuple user granted wanted lifetime a says b =
-    let test = is_his tuple user a && is_wanted wanted a in
+    let test = is_owned tuple user a && is_wanted wanted a in
     let is : is_refresh a.tuple a.user a.family h.event ≡ test = ap (is_refresh a.tuple a.user a.family) says.asked in
     let calm : is_ended a.user a.number h.event ≡ false = ap (is_ended a.user a.number) says.asked in
     let after : Relay = record a { until = now + seconds granted } in
     let same : test ≡ false → IsBacked (h ∷ hs) a = λ off. backed_on h hs a calm (not_refresh a.tuple a.user a.family h (is ∙ off)) b in
-    cond_both (is_his tuple user a) (lasting wanted (now + seconds granted) a) a (IsBacked (h ∷ hs))
+    cond_both (is_owned tuple user a) (lasting wanted (now + seconds granted) a) a (IsBacked (h ∷ hs))
     (λ his. cond_both (is_wanted wanted a) after a (IsBacked (h ∷ hs))
     (λ of.
     let rest = end_of a.tuple a.user a.family a.number (b.opening.moment + seconds b.opens.granted) b.since in
     let refreshed_is : refreshed_to a.tuple a.user a.family h ≡ Some granted =
-    cond-true (is_refresh a.tuple a.user a.family h.event) (refreshed_in h.output) None (is ∙ and_from (is_his tuple user a) (is_wanted wanted a) his of) ∙ ap refreshed_in says.told in
+    cond-true (is_refresh a.tuple a.user a.family h.event) (refreshed_in h.output) None (is ∙ and_from (is_owned tuple user a) (is_wanted wanted a) his of) ∙ ap refreshed_in says.reply in
     let later_is : IsBacked (h ∷ hs) after = record {
       since = h ∷ b.since;
       opening = b.opening;
@@ -156,8 +156,8 @@ lasting_backed h hs now rules tuple user granted wanted lifetime a says b =
       permissions = permissions_on h b.since a.tuple a.user a.family a.permissions b.permissions;
       channels = channels_on h b.since a.tuple a.user a.family a.channels b.channels;
     } in later_is)
-    (λ off. same (right_false (is_his tuple user a) (is_wanted wanted a) off)))
-    (λ off. same (left_false (is_his tuple user a) (is_wanted wanted a) off))
+    (λ off. same (right_false (is_owned tuple user a) (is_wanted wanted a) off)))
+    (λ off. same (left_false (is_owned tuple user a) (is_wanted wanted a) off))
 
 -- what ends isn't kept; what is kept goes on
 without_backed : (h : Happening) (hs : List Happening) (test : Relay → Bool) (state : State) → ((a : Relay) → test a ≡ false → IsBacked hs a → IsBacked (h ∷ hs) a) → AreBacked hs state → AreBacked (h ∷ hs) (without test state)
@@ -206,7 +206,7 @@ new_backed h hs setup now rules tuple user id granted lifetime wants after a say
     given = given_to tuple after;
     granted = granted;
     missing = missing_to setup tuple wants after;
-    answered = says.told ∙ ap (λ (t : FiveTuple). answers t (allocated (given_to tuple after) granted (missing_to setup tuple wants after))) (sym new.tuple_is);
+    answered = says.reply ∙ ap (λ (t : FiveTuple). answers t (allocated (given_to tuple after) granted (missing_to setup tuple wants after))) (sym new.tuple_is);
     has = among (subst (λ (t : FiveTuple). is_tuple tuple t ≡ true) (sym new.tuple_is) (tuple_is_itself tuple));
   };
   kept = le_of_eq (new.until_is ∙ ap (λ (m : ℕ). m + seconds granted) (sym says.moment));
@@ -222,7 +222,7 @@ allocate_backed h hs setup rules tuple user id granted lifetime wants state leas
     let until = state.clock + seconds granted in
     let after = opens setup tuple user id until wants state in
     let on : AllByRecursion (IsEither h hs tuple user until) state.relays = each_map (IsBacked hs) (IsEither h hs tuple user until)
-    (λ a b. inl (backed_on h hs a (ap (is_ended a.user a.number) says.asked) (not_refreshed a.tuple a.user a.family h (ap refreshed_in says.told)) b)) state.relays each in
+    (λ a b. inl (backed_on h hs a (ap (is_ended a.user a.number) says.asked) (not_refreshed a.tuple a.user a.family h (ap refreshed_in says.reply)) b)) state.relays each in
     let either : AllByRecursion (IsEither h hs tuple user until) after.relays = opens_keep setup (λ s. AllByRecursion (IsEither h hs tuple user until) s.relays) tuple user id until
     (λ want offer s _ _ _ q. (inr (record { tuple_is = refl; user_is = refl; until_is = refl; no_permissions = refl; no_channels = refl }), q)) wants state (later state.clock granted least) on in
     each_both (IsEither h hs tuple user until) (λ a. is_of tuple a ≡ true → SomeOf (λ g. (g.family ≡ a.family) × (g.number ≡ a.number)) (given_to tuple after)) (IsBacked (h ∷ hs))
@@ -242,34 +242,34 @@ asked_calm h tuple user request asked a = ap (is_ended a.user a.number) asked
 refresh_backed : (h : Happening) (hs : List Happening) (rules : Rules) (tuple : FiveTuple) (user granted : ℕ) (wanted lifetime : Option ℕ) (state : State) → h.moment ≡ state.clock → h.rules ≡ rules → h.event ≡ asks tuple user (refresh wanted lifetime)
     → AreBacked hs state → AfterBacked h hs (refreshes tuple user wanted granted state)
 refresh_backed h hs rules tuple user granted wanted lifetime state moment rules_are asked each =
-    let test = λ (a : Relay). is_his tuple user a && is_wanted wanted a in
+    let test = λ (a : Relay). is_owned tuple user a && is_wanted wanted a in
     cond_both (granted == 0) (closing test (answers tuple (refreshed granted)) state) (keeping (changed tuple user (lasting wanted (state.clock + seconds granted)) state) (answers tuple (refreshed granted)))
     (AfterBacked h hs)
-    (λ _ told. without_backed h hs test state (λ a off b. backed_on h hs a (asked_calm h tuple user (refresh wanted lifetime) asked a) (not_refresh a.tuple a.user a.family h (ap (is_refresh a.tuple a.user a.family) asked ∙ off)) b) each)
-    (λ _ told. each_mapped (IsBacked hs) (IsBacked (h ∷ hs)) (λ a. cond (is_his tuple user a) (lasting wanted (state.clock + seconds granted) a) a)
-    (λ a b. lasting_backed h hs state.clock rules tuple user granted wanted lifetime a (record { moment = moment; rules_are = rules_are; asked = asked; told = told }) b) state.relays each)
+    (λ _ reply. without_backed h hs test state (λ a off b. backed_on h hs a (asked_calm h tuple user (refresh wanted lifetime) asked a) (not_refresh a.tuple a.user a.family h (ap (is_refresh a.tuple a.user a.family) asked ∙ off)) b) each)
+    (λ _ reply. each_mapped (IsBacked hs) (IsBacked (h ∷ hs)) (λ a. cond (is_owned tuple user a) (lasting wanted (state.clock + seconds granted) a) a)
+    (λ a b. lasting_backed h hs state.clock rules tuple user granted wanted lifetime a (record { moment = moment; rules_are = rules_are; asked = asked; reply = reply }) b) state.relays each)
 
 fulfil_backed : (h : Happening) (hs : List Happening) (setup : Setup) (rules : Rules) (tuple : FiveTuple) (user : ℕ) (request : Request) (state : State) → h.moment ≡ state.clock → h.rules ≡ rules → h.event ≡ asks tuple user request
     → fault setup rules state tuple user request ≡ None → AreBacked hs state → AfterBacked h hs (fulfils setup tuple user request state)
-fulfil_backed h hs setup rules tuple user (allocate id lifetime wants) state moment rules_are asked fit each told =
-    allocate_backed h hs setup rules tuple user id (granted_for lifetime setup.greatest_lifetime) lifetime wants state (granted_least lifetime setup.greatest_lifetime) (record { moment = moment; rules_are = rules_are; asked = asked; told = told }) each
-fulfil_backed h hs setup rules tuple user (unfit_allocate code) state moment rules_are asked fit each told =
-    all_on h hs (asked_calm h tuple user (unfit_allocate code) asked) (λ a. not_refreshed a.tuple a.user a.family h (ap refreshed_in told)) state.relays each
-fulfil_backed h hs setup rules tuple user (refresh wanted lifetime) state moment rules_are asked fit each told =
-    refresh_backed h hs rules tuple user (refreshed_for lifetime setup.greatest_lifetime) wanted lifetime state moment rules_are asked each told
-fulfil_backed h hs setup rules tuple user (permit peers) state moment rules_are asked fit each told =
+fulfil_backed h hs setup rules tuple user (allocate id lifetime wants) state moment rules_are asked fit each reply =
+    allocate_backed h hs setup rules tuple user id (granted_for lifetime setup.greatest_lifetime) lifetime wants state (granted_least lifetime setup.greatest_lifetime) (record { moment = moment; rules_are = rules_are; asked = asked; reply = reply }) each
+fulfil_backed h hs setup rules tuple user (unfit_allocate code) state moment rules_are asked fit each reply =
+    all_on h hs (asked_calm h tuple user (unfit_allocate code) asked) (λ a. not_refreshed a.tuple a.user a.family h (ap refreshed_in reply)) state.relays each
+fulfil_backed h hs setup rules tuple user (refresh wanted lifetime) state moment rules_are asked fit each reply =
+    refresh_backed h hs rules tuple user (refreshed_for lifetime setup.greatest_lifetime) wanted lifetime state moment rules_are asked each reply
+fulfil_backed h hs setup rules tuple user (permit peers) state moment rules_are asked fit each reply =
     let fits = permit_none setup rules tuple user peers state fit in
     each_changed (IsBacked hs) (IsBacked (h ∷ hs)) tuple user (permitting state.clock peers) state
-    (λ a b. backed_on h hs a (asked_calm h tuple user (permit peers) asked a) (not_refreshed a.tuple a.user a.family h (ap refreshed_in told)) b)
-    (λ a his b. permitting_backed h hs state.clock rules tuple user peers a (record { moment = moment; rules_are = rules_are; asked = asked; told = told }) (all_each (λ peer. rules.allows_ip peer.ip) peers fits.allowed) his b) each
-fulfil_backed h hs setup rules tuple user (bind number peer) state moment rules_are asked fit each told =
+    (λ a b. backed_on h hs a (asked_calm h tuple user (permit peers) asked a) (not_refreshed a.tuple a.user a.family h (ap refreshed_in reply)) b)
+    (λ a his b. permitting_backed h hs state.clock rules tuple user peers a (record { moment = moment; rules_are = rules_are; asked = asked; reply = reply }) (all_each (λ peer. rules.allows_ip peer.ip) peers fits.allowed) his b) each
+fulfil_backed h hs setup rules tuple user (bind number peer) state moment rules_are asked fit each reply =
     let fits = bind_none setup rules tuple user number peer state fit in
-    let on = λ (a : Relay) (b : IsBacked hs a). backed_on h hs a (asked_calm h tuple user (bind number peer) asked a) (not_refreshed a.tuple a.user a.family h (ap refreshed_in told)) b in
+    let on = λ (a : Relay) (b : IsBacked hs a). backed_on h hs a (asked_calm h tuple user (bind number peer) asked a) (not_refreshed a.tuple a.user a.family h (ap refreshed_in reply)) b in
     each_changed (IsBacked hs) (IsBacked (h ∷ hs)) tuple user (binding state.clock number peer) state on
     (λ a his b. cond_both (peer.ip.family == a.family) (bound_after state.clock number peer a) a (IsBacked (h ∷ hs))
-    (λ of. binding_backed h hs state.clock rules tuple user number peer a (record { moment = moment; rules_are = rules_are; asked = asked; told = told }) fits.allowed fits.port his of b) (λ _. on a b)) each
-fulfil_backed h hs setup rules tuple user (unfit code) state moment rules_are asked fit each told =
-    all_on h hs (asked_calm h tuple user (unfit code) asked) (λ a. not_refreshed a.tuple a.user a.family h (ap refreshed_in told)) state.relays each
+    (λ of. binding_backed h hs state.clock rules tuple user number peer a (record { moment = moment; rules_are = rules_are; asked = asked; reply = reply }) fits.allowed fits.port his of b) (λ _. on a b)) each
+fulfil_backed h hs setup rules tuple user (unfit code) state moment rules_are asked fit each reply =
+    all_on h hs (asked_calm h tuple user (unfit code) asked) (λ a. not_refreshed a.tuple a.user a.family h (ap refreshed_in reply)) state.relays each
 
 again_quiet : (setup : Setup) (tuple : FiveTuple) (user : ℕ) (request : Request) (state : State) → is_again tuple user request state ≡ true → refreshed_in (answers_again setup tuple request state) ≡ None
 again_quiet setup tuple user (allocate id lifetime wants) state is = refl
@@ -283,8 +283,8 @@ serve_backed : (h : Happening) (hs : List Happening) (setup : Setup) (rules : Ru
     → AreBacked hs state → AfterBacked h hs (serves setup rules tuple user request state)
 serve_backed h hs setup rules tuple user request state moment rules_are asked each =
     serve_cases setup rules tuple user request state (AfterBacked h hs)
-    (λ code _ _ told. all_on h hs (asked_calm h tuple user request asked) (λ a. not_refreshed a.tuple a.user a.family h (ap refreshed_in told)) state.relays each)
-    (λ again told. all_on h hs (asked_calm h tuple user request asked) (λ a. not_refreshed a.tuple a.user a.family h (ap refreshed_in told ∙ again_quiet setup tuple user request state again)) state.relays each)
+    (λ code _ _ reply. all_on h hs (asked_calm h tuple user request asked) (λ a. not_refreshed a.tuple a.user a.family h (ap refreshed_in reply)) state.relays each)
+    (λ again reply. all_on h hs (asked_calm h tuple user request asked) (λ a. not_refreshed a.tuple a.user a.family h (ap refreshed_in reply ∙ again_quiet setup tuple user request state again)) state.relays each)
     (λ _ fit. fulfil_backed h hs setup rules tuple user request state moment rules_are asked fit each)
 
 -- a datagram, or time
@@ -297,7 +297,7 @@ Now setup state now rules event = happening setup state (record { now = now; rul
 happens_backed : (setup : Setup) (hs : List Happening) (state : State) (now : ℕ) (rules : Rules) (event : Event) → AreBacked hs (at now state)
     → AreBacked (Now setup state now rules event ∷ hs) (happens setup rules (at now state) event).state
 happens_backed setup hs state now rules (asks tuple user request) each = serve_backed (Now setup state now rules (asks tuple user request)) hs setup rules tuple user request (at now state) refl refl refl each refl
-happens_backed setup hs state now rules (sends tuple peer whole bytes) each = data_backed (Now setup state now rules (sends tuple peer whole bytes)) hs (at now state) (λ _. refl) (λ _. refl) each
+happens_backed setup hs state now rules (sends tuple peer dont_fragment bytes) each = data_backed (Now setup state now rules (sends tuple peer dont_fragment bytes)) hs (at now state) (λ _. refl) (λ _. refl) each
 happens_backed setup hs state now rules (sends_on tuple number bytes) each = data_backed (Now setup state now rules (sends_on tuple number bytes)) hs (at now state) (λ _. refl) (λ _. refl) each
 happens_backed setup hs state now rules (arrives number peer bytes) each = data_backed (Now setup state now rules (arrives number peer bytes)) hs (at now state) (λ _. refl) (λ _. refl) each
 happens_backed setup hs state now rules (bounces number peer icmp) each = data_backed (Now setup state now rules (bounces number peer icmp)) hs (at now state) (λ _. refl) (λ _. refl) each

@@ -6,7 +6,7 @@ use Rattle.std.proofs.lemmas.Bool.{cond_both, cond-false, and_parts, and_from, o
 use Rattle.stun_endpoints.specs.declared.endpoints.Endpoint.{Endpoint}
 use Rattle.stun_endpoints.specs.declared.endpoints.FiveTuple.{FiveTuple}
 use Rattle.stun_endpoints.specs.Endpoints.{is_tuple}
-use Rattle.turn_machine.specs.Relays.{seconds, Channel, Relay, Setup, Rules, State, is_live, is_of, is_for, is_users, is_his, is_channel}
+use Rattle.turn_machine.specs.Relays.{seconds, Channel, Relay, Setup, Rules, State, is_live, is_of, is_for, is_users, is_owned, is_channel}
 use Rattle.turn_machine.specs.Events.{Offer, bind}
 use Rattle.turn_machine.specs.Opening.{opened, with_relay}
 use Rattle.turn_machine.specs.Rows.{clashes, is_bound_otherwise, is_other_channel, with_channel, fault}
@@ -52,8 +52,8 @@ same_once : (tuple : FiveTuple) (user : ℕ) (change : Relay → Relay) (state :
     → ((t : FiveTuple) (m channel : ℕ) → state.clock ≤ m → count_by (has_channel m t channel) state.relays ≤ 1) → (t : FiveTuple) (m channel : ℕ) → state.clock ≤ m → count_by (has_channel m t channel) (changed tuple user change state).relays ≤ 1
 same_once tuple user change state tuples channels once t m channel le =
     subst (λ (k : ℕ). k ≤ 1)
-    (sym (count_map (has_channel m t channel) (has_channel m t channel) (λ a. cond (is_his tuple user a) (change a) a)
-    (λ a. ap (λ (x : FiveTuple). is_tuple t x && list_any (is_channel m channel) ((cond (is_his tuple user a) (change a) a).channels)) (his_same (λ b. b.tuple) tuple user change tuples a)
+    (sym (count_map (has_channel m t channel) (has_channel m t channel) (λ a. cond (is_owned tuple user a) (change a) a)
+    (λ a. ap (λ (x : FiveTuple). is_tuple t x && list_any (is_channel m channel) ((cond (is_owned tuple user a) (change a) a).channels)) (his_same (λ b. b.tuple) tuple user change tuples a)
     ∙ ap (λ (cs : List Channel). is_of t a && list_any (is_channel m channel) cs) (his_same (λ b. b.channels) tuple user change channels a)) state.relays)) (once t m channel le)
 
 any_filter : {X : Type 0} (test keep : X → Bool) (xs : List X) → list_any test (filter keep xs) ≡ true → list_any test xs ≡ true
@@ -107,29 +107,29 @@ other_family c m tuple number peer a le families free has differ =
 
 -- who has the number after the bind is the relayed address of the peer's family
 is_peers : (c m : ℕ) (tuple : FiveTuple) (user number : ℕ) (peer : Endpoint) (a : Relay) → c ≤ m → AreOfFamily a → is_bound_otherwise c tuple number peer a ≡ false
-    → has_channel m tuple number (cond (is_his tuple user a) (binding c number peer a) a) ≡ true → is_for tuple peer.ip.family a ≡ true
+    → has_channel m tuple number (cond (is_owned tuple user a) (binding c number peer a) a) ≡ true → is_for tuple peer.ip.family a ≡ true
 is_peers c m tuple user number peer a le families free has =
     cond_both (a.family == peer.ip.family) true false (λ (b : Bool). (a.family == peer.ip.family) ≡ b → is_for tuple peer.ip.family a ≡ true)
-    (λ _ same. and_from (is_of tuple a) (a.family == peer.ip.family) (subst (λ (t : FiveTuple). is_tuple tuple t ≡ true) (his_same (λ b. b.tuple) tuple user (binding c number peer) (binding_same (λ b. b.tuple) c number peer (λ _. refl)) a) (and_parts (is_of tuple (cond (is_his tuple user a) (binding c number peer a) a)) (list_any (is_channel m number) ((cond (is_his tuple user a) (binding c number peer a) a).channels)) has).0) same)
+    (λ _ same. and_from (is_of tuple a) (a.family == peer.ip.family) (subst (λ (t : FiveTuple). is_tuple tuple t ≡ true) (his_same (λ b. b.tuple) tuple user (binding c number peer) (binding_same (λ b. b.tuple) c number peer (λ _. refl)) a) (and_parts (is_of tuple (cond (is_owned tuple user a) (binding c number peer a) a)) (list_any (is_channel m number) ((cond (is_owned tuple user a) (binding c number peer a) a).channels)) has).0) same)
     (λ _ differ.
-    let unchanged : cond (is_his tuple user a) (binding c number peer a) a ≡ a = cond_both (is_his tuple user a) (binding c number peer a) a (λ (b : Relay). b ≡ a)
+    let unchanged : cond (is_owned tuple user a) (binding c number peer a) a ≡ a = cond_both (is_owned tuple user a) (binding c number peer a) a (λ (b : Relay). b ≡ a)
     (λ _. cond-false (peer.ip.family == a.family) (bound_after c number peer a) a (not_true (peer.ip.family == a.family) (λ e. false≢true (sym differ ∙ eq-eqb a.family peer.ip.family (sym (eqb-true peer.ip.family a.family e)))))) (λ _. refl) in
     let before : has_channel m tuple number a ≡ true = subst (λ (b : Relay). has_channel m tuple number b ≡ true) unchanged has in
     absurd (other_family c m tuple number peer a le families free before differ))
     (same_cond (a.family == peer.ip.family))
 
 -- another number, or of another client: as before
-as_before : (c m : ℕ) (tuple other : FiveTuple) (user number channel : ℕ) (peer : Endpoint) (a : Relay) → (number == channel) ≡ false → has_channel m other channel (cond (is_his tuple user a) (binding c number peer a) a) ≡ true → has_channel m other channel a ≡ true
+as_before : (c m : ℕ) (tuple other : FiveTuple) (user number channel : ℕ) (peer : Endpoint) (a : Relay) → (number == channel) ≡ false → has_channel m other channel (cond (is_owned tuple user a) (binding c number peer a) a) ≡ true → has_channel m other channel a ≡ true
 as_before c m tuple other user number channel peer a differ has =
-    cond_both (is_his tuple user a) (binding c number peer a) a (λ (b : Relay). has_channel m other channel b ≡ true → has_channel m other channel a ≡ true)
+    cond_both (is_owned tuple user a) (binding c number peer a) a (λ (b : Relay). has_channel m other channel b ≡ true → has_channel m other channel a ≡ true)
     (λ _. cond_both (peer.ip.family == a.family) (bound_after c number peer a) a (λ (b : Relay). has_channel m other channel b ≡ true → has_channel m other channel a ≡ true)
     (λ _ h. let both = and_parts (is_of other a) (list_any (is_channel m channel) (with_channel c number peer a.channels)) h in
     and_from (is_of other a) (list_any (is_channel m channel) a.channels) both.0 (was_live c m number channel peer a.channels differ both.1))
     (λ _ h. h)) (λ _ h. h) has
 
-others_as_before : (c m : ℕ) (tuple other : FiveTuple) (user number channel : ℕ) (peer : Endpoint) (a : Relay) → is_tuple other tuple ≡ false → has_channel m other channel (cond (is_his tuple user a) (binding c number peer a) a) ≡ true → has_channel m other channel a ≡ true
+others_as_before : (c m : ℕ) (tuple other : FiveTuple) (user number channel : ℕ) (peer : Endpoint) (a : Relay) → is_tuple other tuple ≡ false → has_channel m other channel (cond (is_owned tuple user a) (binding c number peer a) a) ≡ true → has_channel m other channel a ≡ true
 others_as_before c m tuple other user number channel peer a apart has =
-    cond_both (is_his tuple user a) (binding c number peer a) a (λ (b : Relay). has_channel m other channel b ≡ true → has_channel m other channel a ≡ true)
+    cond_both (is_owned tuple user a) (binding c number peer a) a (λ (b : Relay). has_channel m other channel b ≡ true → has_channel m other channel a ≡ true)
     (λ his h.
     let mine = tuple_same tuple a.tuple (and_parts (is_of tuple a) (is_users user a) his).0 in
     let of : is_tuple other ((binding c number peer a).tuple) ≡ true = (and_parts (is_of other (binding c number peer a)) (list_any (is_channel m channel) (binding c number peer a).channels) h).0 in
@@ -142,7 +142,7 @@ bound_once : (rules : Rules) (setup : Setup) (tuple : FiveTuple) (user number : 
 bound_once rules setup tuple user number peer state fit has t m channel le =
     let c = state.clock in
     let free = any_none (is_bound_otherwise c tuple number peer) state.relays (bind_none setup rules tuple user number peer state fit).free in
-    let change = λ (a : Relay). cond (is_his tuple user a) (binding c number peer a) a in
+    let change = λ (a : Relay). cond (is_owned tuple user a) (binding c number peer a) a in
     let before = has.once t m channel le in
     let single = has.single tuple peer.ip.family in
     cond_both (is_tuple t tuple) true false (λ (b : Bool). is_tuple t tuple ≡ b → count_by (has_channel m t channel) (map change state.relays) ≤ 1)

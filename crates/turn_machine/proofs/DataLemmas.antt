@@ -8,7 +8,7 @@ use Rattle.turn_machine.specs.Data.{allows, sent, sent_by, sent_on, has_channel,
 
 abbrev pub is_answer : Output → Bool
 is_answer (answers tuple answer) = true
-is_answer (to_peer number peer whole bytes) = false
+is_answer (to_peer number peer dont_fragment bytes) = false
 is_answer (to_client tuple peer bytes) = false
 is_answer (to_client_on tuple channel bytes) = false
 is_answer (to_client_icmp tuple peer icmp) = false
@@ -23,9 +23,9 @@ quiet_if true o quiet = quiet
 quiet_if false o quiet = refl
 
 pub relayed_quiet : (setup : Setup) (rules : Rules) (state : State) (event : Event) → is_answer (relayed setup rules state event) ≡ false
-relayed_quiet setup rules state (sends tuple peer whole bytes) =
-    quiet_or (sent setup rules state.clock peer whole bytes) nothing (find (is_for tuple peer.ip.family) state.relays)
-    (λ a. quiet_if (is_permitted state.clock peer.ip a && (allows rules peer && (not whole || setup.keeps_whole))) (to_peer a.number peer whole bytes) refl) refl
+relayed_quiet setup rules state (sends tuple peer dont_fragment bytes) =
+    quiet_or (sent setup rules state.clock peer dont_fragment bytes) nothing (find (is_for tuple peer.ip.family) state.relays)
+    (λ a. quiet_if (is_permitted state.clock peer.ip a && (allows rules peer && (not dont_fragment || setup.supports_dont_fragment))) (to_peer a.number peer dont_fragment bytes) refl) refl
 relayed_quiet setup rules state (sends_on tuple number bytes) =
     quiet_or (sent_on rules state.clock number bytes) nothing (find (has_channel state.clock tuple number) state.relays)
     (λ a. quiet_or (sent_by rules bytes a) nothing (find (is_channel state.clock number) a.channels) (λ c. quiet_if (allows rules c.peer) (to_peer a.number c.peer false bytes) refl) refl) refl

@@ -24,7 +24,7 @@ use Rattle.turn_machine.proofs.ListsLemmas.{some_map}
 use Rattle.turn_machine.proofs.NumbersLemmas.{run_once}
 use Rattle.turn_machine.proofs.RightLemmas.{run_right}
 use Rattle.turn_machine.proofs.GrantedLemmas.{some_found}
-use Rattle.turn_machine.proofs.HoldingLemmas.{Held, held_at}
+use Rattle.turn_machine.proofs.HoldingLemmas.{OuterStep, held_at}
 use Rattle.turn_machine.proofs.ChannelsLemmas.{run_channels_once}
 use Rattle.turn_machine.proofs.WorksLemmas.{has_found}
 use Rattle.turn_machine.proofs.StayingLemmas.{only_one, run_held}
@@ -47,7 +47,7 @@ Moment setup earlier now = max (run setup earlier).clock now
 
 abbrev HeldFor : (setup : Setup) (earlier : List Timed) (now : ℕ) (tuple : FiveTuple) (number : ℕ) (peer : Endpoint) (Asked : (user : ℕ) → List Happening → Type 0) → IsDue (history setup earlier) (Moment setup earlier now) tuple number peer Asked → Type 0
 HeldFor setup earlier now tuple number peer Asked due =
-    Held tuple due.user number (due.opening.moment + seconds due.opens.granted) peer (Moment setup earlier now) due.since (at now (run setup earlier))
+    OuterStep tuple due.user number (due.opening.moment + seconds due.opens.granted) peer (Moment setup earlier now) due.since (at now (run setup earlier))
 
 held_for : (setup : Setup) (earlier : List Timed) (now : ℕ) (tuple : FiveTuple) (number : ℕ) (peer : Endpoint) (Asked : (user : ℕ) → List Happening → Type 0) (due : IsDue (history setup earlier) (Moment setup earlier now) tuple number peer Asked) → HeldFor setup earlier now tuple number peer Asked due
 held_for setup earlier now tuple number peer Asked due =
@@ -71,22 +71,22 @@ his_tuple : (setup : Setup) (earlier : List Timed) (now : ℕ) (tuple : FiveTupl
 his_tuple setup earlier now tuple number peer Asked due held =
     sym (tuple_same tuple held.a.tuple (and_parts (is_of tuple held.a) (held.a.family == peer.ip.family) (has_found tuple peer.ip.family (at now (run setup earlier)) held.a held.found)).0)
 
-may_keep : (whole keeps : Bool) → (whole ≡ true → keeps ≡ true) → (not whole || keeps) ≡ true
+may_keep : (dont_fragment keeps : Bool) → (dont_fragment ≡ true → keeps ≡ true) → (not dont_fragment || keeps) ≡ true
 may_keep true keeps f = f refl
 may_keep false keeps f = refl
 
 -- ---- From the client
 
-pub goes_out : (setup : Setup) (earlier : List Timed) (now : ℕ) (rules : Rules) (tuple : FiveTuple) (number : ℕ) (peer : Endpoint) (whole : Bool) (bytes : List ℕ)
-    → IsDue (history setup earlier) (Moment setup earlier now) tuple number peer (ArePermitting tuple peer (Moment setup earlier now)) → allows rules peer ≡ true → (whole ≡ true → setup.keeps_whole ≡ true)
-    → output_of setup earlier now rules (sends tuple peer whole bytes) ≡ to_peer number peer whole bytes
-goes_out setup earlier now rules tuple number peer whole bytes due allowed can =
+pub goes_out : (setup : Setup) (earlier : List Timed) (now : ℕ) (rules : Rules) (tuple : FiveTuple) (number : ℕ) (peer : Endpoint) (dont_fragment : Bool) (bytes : List ℕ)
+    → IsDue (history setup earlier) (Moment setup earlier now) tuple number peer (ArePermitting tuple peer (Moment setup earlier now)) → allows rules peer ≡ true → (dont_fragment ≡ true → setup.supports_dont_fragment ≡ true)
+    → output_of setup earlier now rules (sends tuple peer dont_fragment bytes) ≡ to_peer number peer dont_fragment bytes
+goes_out setup earlier now rules tuple number peer dont_fragment bytes due allowed can =
     let n = Moment setup earlier now in
     let held = held_for setup earlier now tuple number peer (ArePermitting tuple peer n) due in
-    ap (λ (o : Option Relay). option_map_or (sent setup rules n peer whole bytes) o nothing) held.found
-    ∙ (cond-true (is_permitted n peer.ip held.a && (allows rules peer && (not whole || setup.keeps_whole))) (to_peer held.a.number peer whole bytes) nothing
-    (and_from (is_permitted n peer.ip held.a) (allows rules peer && (not whole || setup.keeps_whole)) (held.permits due.asked) (and_from (allows rules peer) (not whole || setup.keeps_whole) allowed (may_keep whole setup.keeps_whole can)))
-    ∙ ap (λ (k : ℕ). to_peer k peer whole bytes) held.number_is)
+    ap (λ (o : Option Relay). option_map_or (sent setup rules n peer dont_fragment bytes) o nothing) held.found
+    ∙ (cond-true (is_permitted n peer.ip held.a && (allows rules peer && (not dont_fragment || setup.supports_dont_fragment))) (to_peer held.a.number peer dont_fragment bytes) nothing
+    (and_from (is_permitted n peer.ip held.a) (allows rules peer && (not dont_fragment || setup.supports_dont_fragment)) (held.permits due.asked) (and_from (allows rules peer) (not dont_fragment || setup.supports_dont_fragment) allowed (may_keep dont_fragment setup.supports_dont_fragment can)))
+    ∙ ap (λ (k : ℕ). to_peer k peer dont_fragment bytes) held.number_is)
 
 any_found : (n channel : ℕ) (cs : List Channel) (c : Channel) → find (is_channel n channel) cs ≡ Some c → list_any (is_channel n channel) cs ≡ true
 any_found n channel cs c is = some_any (is_channel n channel) cs (some_map (λ d. d ≡ c) (λ d. is_channel n channel d ≡ true) (λ d same. subst (λ (x : Channel). is_channel n channel x ≡ true) (sym same) (find_true (is_channel n channel) cs c is)) cs (found_some (is_channel n channel) cs c is))

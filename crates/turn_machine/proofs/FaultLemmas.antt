@@ -4,7 +4,7 @@ use Rattle.std.specs.Option.{option_map_or}
 use Rattle.std.specs.Prelude.{◌==◌, ◌&&◌}
 use Rattle.std.proofs.lemmas.Bool.{cond_both, cond-false, false≢true}
 use Rattle.stun_endpoints.specs.declared.endpoints.FiveTuple.{FiveTuple}
-use Rattle.turn_machine.specs.Relays.{seconds, Setup, Rules, State, is_his}
+use Rattle.turn_machine.specs.Relays.{seconds, Setup, Rules, State, is_owned}
 use Rattle.turn_machine.specs.Events.{Request, allocate, unfit_allocate, refresh, permit, bind, unfit, refreshed, refused, answers}
 use Rattle.turn_machine.specs.Times.{refreshed_for}
 use Rattle.turn_machine.specs.Rows.{fault}
@@ -20,7 +20,7 @@ fulfilled setup tuple user code (unfit_allocate c) state e = cc
 fulfilled setup tuple user code (refresh family lifetime) state e =
     let granted = refreshed_for lifetime setup.greatest_lifetime in
     cond_both (granted == 0)
-    (closing (λ a. is_his tuple user a && is_wanted family a) (answers tuple (refreshed granted)) state)
+    (closing (λ a. is_owned tuple user a && is_wanted family a) (answers tuple (refreshed granted)) state)
     (keeping (changed tuple user (lasting family (state.clock + seconds granted)) state) (answers tuple (refreshed granted)))
     (λ (s : Step). IsRefused tuple code s → ⊥) (λ _ is. cc) (λ _ is. cc) e
 fulfilled setup tuple user code (permit peers) state e = cc

@@ -8,7 +8,7 @@ use Rattle.stun_endpoints.specs.declared.endpoints.Endpoint.{Endpoint}
 use Rattle.stun_endpoints.specs.declared.endpoints.FiveTuple.{FiveTuple}
 use Rattle.stun_endpoints.specs.Endpoints.{is_ip, is_endpoint, is_tuple}
 use Rattle.turn_machine.specs.Lists.{SomeOf}
-use Rattle.turn_machine.specs.Relays.{seconds, Permission, Channel, Relay, Setup, Rules, State, is_live, is_of, is_users, is_his, is_at, is_permission, is_permitted, is_channel, is_channel_of}
+use Rattle.turn_machine.specs.Relays.{seconds, Permission, Channel, Relay, Setup, Rules, State, is_live, is_of, is_users, is_owned, is_at, is_permission, is_permitted, is_channel, is_channel_of}
 use Rattle.turn_machine.specs.Events.{Want, Request, allocate, unfit_allocate, refresh, permit, bind, unfit, Event, asks, sends, sends_on, arrives, bounces, ends, ends_user, ticks, refreshed, Output, answers, to_peer, to_client, to_client_on, nothing}
 use Rattle.turn_machine.specs.Times.{at, granted_for, refreshed_for}
 use Rattle.turn_machine.specs.Opening.{opened, opens}
@@ -187,16 +187,16 @@ holds_at tuple channel a c p state now soon h =
 apart_change : (tuple other : FiveTuple) (channel user : ℕ) (change : Relay → Relay) (a : Relay) (c : Channel) (p : Permission) (state : State) → ((b : Relay) → (change b).tuple ≡ b.tuple) → is_tuple tuple other ≡ false → Holds tuple channel a c p state → Holds tuple channel a c p (changed other user change state)
 apart_change tuple other channel user change a c p state tuples apart h =
     let now = state.clock in
-    let after = λ (b : Relay). cond (is_his other user b) (change b) b in
-    let theirs = λ (b : Relay) (his : is_his other user b ≡ true). tuple_same other b.tuple (and_parts (is_of other b) (is_users user b) his).0 in
+    let after = λ (b : Relay). cond (is_owned other user b) (change b) b in
+    let theirs = λ (b : Relay) (his : is_owned other user b ≡ true). tuple_same other b.tuple (and_parts (is_of other b) (is_users user b) his).0 in
     let of = (and_parts (is_of tuple a) (list_any (is_channel now channel) a.channels) (find_true (has_channel now tuple channel) state.relays a h.relay)).0 in
-    let not_his : is_his other user a ≡ false = not_true (is_his other user a) (λ his. differs tuple other apart (tuple_same tuple a.tuple of ∙ sym (theirs a his))) in
+    let not_his : is_owned other user a ≡ false = not_true (is_owned other user a) (λ his. differs tuple other apart (tuple_same tuple a.tuple of ∙ sym (theirs a his))) in
     record {
       relay = found_mapped (has_channel now tuple channel) after state.relays a
-          (λ b. cond_both (is_his other user b) (change b) b (λ (x : Relay). has_channel now tuple channel x ≡ true → has_channel now tuple channel b ≡ true)
+          (λ b. cond_both (is_owned other user b) (change b) b (λ (x : Relay). has_channel now tuple channel x ≡ true → has_channel now tuple channel b ≡ true)
           (λ his has. absurd (differs tuple other apart (tuple_same tuple (change b).tuple (and_parts (is_of tuple (change b)) (list_any (is_channel now channel) (change b).channels) has).0 ∙ (tuples b ∙ sym (theirs b his)))))
           (λ _ has. has))
-          h.relay (cond-false (is_his other user a) (change a) a not_his);
+          h.relay (cond-false (is_owned other user a) (change a) a not_his);
       bound = h.bound;
       permitted = h.permitted;
     }
@@ -225,12 +225,12 @@ fulfilled_others setup tuple other channel user (allocate id lifetime wants) a c
 fulfilled_others setup tuple other channel user (unfit_allocate code) a c p state apart h = h
 fulfilled_others setup tuple other channel user (refresh wanted lifetime) a c p state apart h =
     let granted = refreshed_for lifetime setup.greatest_lifetime in
-    let test = λ (b : Relay). is_his other user b && is_wanted wanted b in
+    let test = λ (b : Relay). is_owned other user b && is_wanted wanted b in
     let change = lasting wanted (state.clock + seconds granted) in
     let of = (and_parts (is_of tuple a) (list_any (is_channel state.clock channel) a.channels) (find_true (has_channel state.clock tuple channel) state.relays a h.relay)).0 in
-    let not_his : is_his other user a ≡ false = not_true (is_his other user a) (λ his. differs tuple other apart (tuple_same tuple a.tuple of ∙ sym (tuple_same other a.tuple (and_parts (is_of other a) (is_users user a) his).0))) in
+    let not_his : is_owned other user a ≡ false = not_true (is_owned other user a) (λ his. differs tuple other apart (tuple_same tuple a.tuple of ∙ sym (tuple_same other a.tuple (and_parts (is_of other a) (is_users user a) his).0))) in
     cond_both (granted == 0) (closing test (answers other (refreshed granted)) state) (keeping (changed other user change state) (answers other (refreshed granted))) (λ (s : Step). Holds tuple channel a c p s.state)
-    (λ _. ended_others tuple channel test a c p state (left_false (is_his other user a) (is_wanted wanted a) not_his) h)
+    (λ _. ended_others tuple channel test a c p state (left_false (is_owned other user a) (is_wanted wanted a) not_his) h)
     (λ _. apart_change tuple other channel user change a c p state (lasting_same (λ b. b.tuple) wanted (state.clock + seconds granted) (λ _. refl)) apart h)
 fulfilled_others setup tuple other channel user (permit peers) a c p state apart h = apart_change tuple other channel user (permitting state.clock peers) a c p state (λ _. refl) apart h
 fulfilled_others setup tuple other channel user (bind number peer) a c p state apart h = apart_change tuple other channel user (binding state.clock number peer) a c p state (binding_same (λ b. b.tuple) state.clock number peer (λ _. refl)) apart h
@@ -242,7 +242,7 @@ unrefused setup tuple user (allocate id lifetime wants) state = refl
 unrefused setup tuple user (unfit_allocate code) state = refl
 unrefused setup tuple user (refresh wanted lifetime) state =
     let granted = refreshed_for lifetime setup.greatest_lifetime in
-    cond_both (granted == 0) (closing (λ b. is_his tuple user b && is_wanted wanted b) (answers tuple (refreshed granted)) state) (keeping (changed tuple user (lasting wanted (state.clock + seconds granted)) state) (answers tuple (refreshed granted))) (λ (s : Step). is_refusal s.output ≡ false) (λ _. refl) (λ _. refl)
+    cond_both (granted == 0) (closing (λ b. is_owned tuple user b && is_wanted wanted b) (answers tuple (refreshed granted)) state) (keeping (changed tuple user (lasting wanted (state.clock + seconds granted)) state) (answers tuple (refreshed granted))) (λ (s : Step). is_refusal s.output ≡ false) (λ _. refl) (λ _. refl)
 unrefused setup tuple user (permit peers) state = refl
 unrefused setup tuple user (bind number peer) state = refl
 unrefused setup tuple user (unfit code) state = refl
@@ -258,7 +258,7 @@ stays setup rules tuple channel user number a c p state now (asks other owner re
       | inr refusal ↦ serve_cases setup rules other owner request s (λ (d : Step). is_refusal d.output ≡ true → Holds tuple channel a c p d.state) (λ _ _ _ _. h) (λ _ _. h)
           (λ _ _ is. absurd (false≢true (sym (unrefused setup other owner request s) ∙ is))) (not_no (is_refusal (serves setup rules other owner request s).output) refusal)
     ]
-stays setup rules tuple channel user number a c p state now (sends other peer whole bytes) user_is number_is none h = h
+stays setup rules tuple channel user number a c p state now (sends other peer dont_fragment bytes) user_is number_is none h = h
 stays setup rules tuple channel user number a c p state now (sends_on other n bytes) user_is number_is none h = h
 stays setup rules tuple channel user number a c p state now (arrives n peer bytes) user_is number_is none h = h
 stays setup rules tuple channel user number a c p state now (bounces n peer icmp) user_is number_is none h = h

@@ -8,7 +8,7 @@ use Rattle.stun_endpoints.specs.declared.endpoints.Endpoint.{Endpoint}
 use Rattle.stun_endpoints.specs.declared.endpoints.FiveTuple.{FiveTuple}
 use Rattle.stun_endpoints.specs.Endpoints.{is_ip, is_tuple}
 use Rattle.turn_machine.specs.Lists.{SomeOf}
-use Rattle.turn_machine.specs.Relays.{seconds, Permission, Channel, Relay, Setup, Rules, State, is_of, is_for, is_users, is_his, is_permission, is_channel}
+use Rattle.turn_machine.specs.Relays.{seconds, Permission, Channel, Relay, Setup, Rules, State, is_of, is_for, is_users, is_owned, is_permission, is_channel}
 use Rattle.turn_machine.specs.Events.{refresh, permit, bind, refreshed, answers}
 use Rattle.turn_machine.specs.Times.{numbers, refreshed_for}
 use Rattle.turn_machine.specs.Opening.{has_of}
@@ -72,7 +72,7 @@ not_true false never = refl
 
 -- ---- A change of the client's own
 
-his : (tuple : FiveTuple) (user family : ℕ) (state : State) (a : Relay) → IsOwn tuple user state → relay_of tuple family state ≡ Some a → is_his tuple user a ≡ true
+his : (tuple : FiveTuple) (user family : ℕ) (state : State) (a : Relay) → IsOwn tuple user state → relay_of tuple family state ≡ Some a → is_owned tuple user a ≡ true
 his tuple user family state a own is =
     let both = and_parts (is_of tuple a) (a.family == family) (find_true (is_for tuple family) state.relays a is) in
     and_from (is_of tuple a) (is_users user a) both.0 (eq-eqb a.user user (found_is (λ b. is_of tuple b ≡ true → b.user ≡ user) (is_for tuple family) state.relays a is own.his both.0))
@@ -84,21 +84,21 @@ family_is tuple family state a is = eqb-true a.family family (and_parts (is_of t
 after_change : (tuple : FiveTuple) (user family : ℕ) (change : Relay → Relay) (state : State) (a : Relay) → ((b : Relay) → (change b).tuple ≡ b.tuple) → ((b : Relay) → (change b).family ≡ b.family) → IsOwn tuple user state
     → relay_of tuple family state ≡ Some a → relay_of tuple family (changed tuple user change state) ≡ Some (change a)
 after_change tuple user family change state a tuples families own is =
-    find_mapped (is_for tuple family) (λ b. cond (is_his tuple user b) (change b) b)
-    (λ b. ap (λ (t : FiveTuple). is_tuple tuple t && ((cond (is_his tuple user b) (change b) b).family == family)) (his_same (λ c. c.tuple) tuple user change tuples b)
+    find_mapped (is_for tuple family) (λ b. cond (is_owned tuple user b) (change b) b)
+    (λ b. ap (λ (t : FiveTuple). is_tuple tuple t && ((cond (is_owned tuple user b) (change b) b).family == family)) (his_same (λ c. c.tuple) tuple user change tuples b)
     ∙ ap (λ (f : ℕ). is_of tuple b && (f == family)) (his_same (λ c. c.family) tuple user change families b)) state.relays a is
-    ∙ ap (λ (b : Relay). Some b) (cond-true (is_his tuple user a) (change a) a (his tuple user family state a own is))
+    ∙ ap (λ (b : Relay). Some b) (cond-true (is_owned tuple user a) (change a) a (his tuple user family state a own is))
 
-pub apart_test : (tuple other : FiveTuple) (user family : ℕ) (a : Relay) → other ≢ tuple → is_for other family a ≡ true → is_his tuple user a ≡ false
+pub apart_test : (tuple other : FiveTuple) (user family : ℕ) (a : Relay) → other ≢ tuple → is_for other family a ≡ true → is_owned tuple user a ≡ false
 apart_test tuple other user family a differ is =
     let theirs = tuple_same other a.tuple (and_parts (is_of other a) (a.family == family) is).0 in
-    not_true (is_his tuple user a) (λ mine. differ (theirs ∙ sym (tuple_same tuple a.tuple (and_parts (is_of tuple a) (is_users user a) mine).0)))
+    not_true (is_owned tuple user a) (λ mine. differ (theirs ∙ sym (tuple_same tuple a.tuple (and_parts (is_of tuple a) (is_users user a) mine).0)))
 
 pub others_stay : (tuple : FiveTuple) (user : ℕ) (change : Relay → Relay) (state : State) → ((b : Relay) → (change b).tuple ≡ b.tuple) → ((b : Relay) → (change b).family ≡ b.family) → OthersStay tuple state (changed tuple user change state)
 others_stay tuple user change state tuples families other family differ =
-    find_stays (is_for other family) (λ b. cond (is_his tuple user b) (change b) b)
-    (λ b is. cond-false (is_his tuple user b) (change b) b (apart_test tuple other user family b differ is))
-    (λ b isnt. ap (λ (t : FiveTuple). is_tuple other t && ((cond (is_his tuple user b) (change b) b).family == family)) (his_same (λ c. c.tuple) tuple user change tuples b)
+    find_stays (is_for other family) (λ b. cond (is_owned tuple user b) (change b) b)
+    (λ b is. cond-false (is_owned tuple user b) (change b) b (apart_test tuple other user family b differ is))
+    (λ b isnt. ap (λ (t : FiveTuple). is_tuple other t && ((cond (is_owned tuple user b) (change b) b).family == family)) (his_same (λ c. c.tuple) tuple user change tuples b)
     ∙ (ap (λ (f : ℕ). is_of other b && (f == family)) (his_same (λ c. c.family) tuple user change families b) ∙ isnt)) state.relays
 
 -- ---- Refresh
@@ -136,7 +136,7 @@ gone keep test (x ∷ all) each =
 
 refreshing : (tuple : FiveTuple) (user granted : ℕ) (wanted : Option ℕ) (state : State) → IsOwn tuple user state → IsRefreshed tuple wanted granted state (refreshes tuple user wanted granted state)
 refreshing tuple user granted wanted state own =
-    let ended = λ (a : Relay). is_his tuple user a && is_wanted wanted a in
+    let ended = λ (a : Relay). is_owned tuple user a && is_wanted wanted a in
     let change = lasting wanted (state.clock + seconds granted) in
     cond_both (granted == 0) (closing ended (answers tuple (refreshed granted)) state) (keeping (changed tuple user change state) (answers tuple (refreshed granted)))
     (IsRefreshed tuple wanted granted state)
@@ -147,12 +147,12 @@ refreshing tuple user granted wanted state own =
         gone = gone (λ a. not (ended a)) (is_for tuple family) state.relays
             (each_map (λ a. is_of tuple a ≡ true → a.user ≡ user) (λ a. is_for tuple family a ≡ true → not (ended a) ≡ false)
             (λ a mine of. let both = and_parts (is_of tuple a) (a.family == family) of in
-            ap not (and_from (is_his tuple user a) (is_wanted wanted a) (and_from (is_of tuple a) (is_users user a) both.0 (eq-eqb a.user user (mine both.0))) (wanted_of wanted family a is (eqb-true a.family family both.1)))) state.relays own.his);
+            ap not (and_from (is_owned tuple user a) (is_wanted wanted a) (and_from (is_of tuple a) (is_users user a) both.0 (eq-eqb a.user user (mine both.0))) (wanted_of wanted family a is (eqb-true a.family family both.1)))) state.relays own.his);
         reported = λ a of. reported ended (is_for tuple family) state.relays a of
-            (and_from (is_his tuple user a) (is_wanted wanted a) (his tuple user family state a own of) (wanted_of wanted family a is (family_is tuple family state a of)));
+            (and_from (is_owned tuple user a) (is_wanted wanted a) (his tuple user family state a own of) (wanted_of wanted family a is (family_is tuple family state a of)));
       };
       others = λ other family differ. find_filter (is_for other family) (λ a. not (ended a))
-          (λ a off. not_true (is_for other family a) (λ of. false≢true (sym off ∙ ap not (left_false (is_his tuple user a) (is_wanted wanted a) (apart_test tuple other user family a differ of))))) state.relays;
+          (λ a off. not_true (is_for other family a) (λ of. false≢true (sym off ∙ ap not (left_false (is_owned tuple user a) (is_wanted wanted a) (apart_test tuple other user family a differ of))))) state.relays;
     })
     (λ some. record {
       output = refl;
@@ -238,12 +238,12 @@ fits : (his : Bool) (most n : ℕ) → (his ≡ true → n ≤ most) → (his &&
 fits false most n le = refl
 fits true most n le = le-ltb most n (le refl)
 
-room_for : (setup : Setup) (tuple : FiveTuple) (user : ℕ) (peers : List Endpoint) (state : State) → AllByRecursion (λ a. is_his tuple user a ≡ true → length (permissions_after state.clock peers a) ≤ setup.most_permissions) state.relays
+room_for : (setup : Setup) (tuple : FiveTuple) (user : ℕ) (peers : List Endpoint) (state : State) → AllByRecursion (λ a. is_owned tuple user a ≡ true → length (permissions_after state.clock peers a) ≤ setup.most_permissions) state.relays
     → list_any (lacks_permissions setup state.clock tuple user peers) state.relays ≡ false
 room_for setup tuple user peers state room =
     none_any (lacks_permissions setup state.clock tuple user peers) state.relays
-    (each_map (λ a. is_his tuple user a ≡ true → length (permissions_after state.clock peers a) ≤ setup.most_permissions) (λ a. lacks_permissions setup state.clock tuple user peers a ≡ false)
-    (λ a le. fits (is_his tuple user a) setup.most_permissions (length (permissions_after state.clock peers a)) le) state.relays room)
+    (each_map (λ a. is_owned tuple user a ≡ true → length (permissions_after state.clock peers a) ≤ setup.most_permissions) (λ a. lacks_permissions setup state.clock tuple user peers a ≡ false)
+    (λ a le. fits (is_owned tuple user a) setup.most_permissions (length (permissions_after state.clock peers a)) le) state.relays room)
 
 families_for : (tuple : FiveTuple) (peers : List Endpoint) (state : State) → AllByRecursion (λ peer. HasOf tuple peer.ip.family state) peers → have_families tuple peers state ≡ true
 families_for tuple peers state each =
@@ -290,6 +290,11 @@ five_rows number bound family false permissions channels a b c d e f = absurd (f
 five_rows number bound family allowed true channels a b c d e f = absurd (false≢true (sym e))
 five_rows number bound family allowed permissions true a b c d e f = absurd (false≢true (sym f))
 
+fits_family : (his family : Bool) (most n : ℕ) → (his ≡ true → family ≡ true → n ≤ most) → (his && (family && nat_lt most n)) ≡ false
+fits_family true true most n le = le-ltb most n (le refl refl)
+fits_family true false most n le = refl
+fits_family false family most n le = refl
+
 bind_fits : (setup : Setup) (rules : Rules) (tuple : FiveTuple) (user number : ℕ) (peer : Endpoint) (state : State) → CanBind setup rules tuple user number peer state → bind_rows setup rules state tuple user number peer ≡ None
 bind_fits setup rules tuple user number peer state can =
     five_rows (is_channel_number setup number) (list_any (is_bound_otherwise state.clock tuple number peer) state.relays) (has_of tuple peer.ip.family state) (rules.allows_ip peer.ip && rules.allows_port peer)
@@ -302,8 +307,8 @@ bind_fits setup rules tuple user number peer state can =
     (and_from (rules.allows_ip peer.ip) (rules.allows_port peer) can.permits.allowed.0 can.port)
     (room_for setup tuple user (peer ∷ []) state can.permits.room)
     (none_any (lacks_channels setup state.clock tuple user number peer) state.relays
-    (each_map (λ a. is_his tuple user a ≡ true → length (with_channel state.clock number peer a.channels) ≤ setup.most_channels) (λ a. lacks_channels setup state.clock tuple user number peer a ≡ false)
-    (λ a le. fits (is_his tuple user a) setup.most_channels (length (with_channel state.clock number peer a.channels)) le) state.relays can.room))
+    (each_map (λ a. is_owned tuple user a ≡ true → a.family ≡ peer.ip.family → length (with_channel state.clock number peer a.channels) ≤ setup.most_channels) (λ a. lacks_channels setup state.clock tuple user number peer a ≡ false)
+    (λ a le. fits_family (is_owned tuple user a) (peer.ip.family == a.family) setup.most_channels (length (with_channel state.clock number peer a.channels)) (λ of its. le of (sym (eqb-true peer.ip.family a.family its)))) state.relays can.room))
 
 not_among : (now m number : ℕ) (cs : List Channel) → AllByRecursion (λ c. is_channel m number c ≡ false) (filter (is_other_channel now number) cs)
 not_among now m number [] = tt
@@ -326,7 +331,7 @@ bind_granted setup rules state tuple user number peer can =
     let is : relay_of tuple peer.ip.family (changed tuple user change state) ≡ Some (bound_after now number peer a) =
     after_change tuple user peer.ip.family change state a tuples families can.permits.own here.1
     ∙ ap (λ (b : Relay). Some b) (cond-true (peer.ip.family == a.family) (bound_after now number peer a) a same) in
-    let whole : Channel = record { number = number; peer = peer; until = now + seconds 600 } in
+    let dont_fragment : Channel = record { number = number; peer = peer; until = now + seconds 600 } in
     subst (IsBound tuple number peer state)
     (sym (for_granted setup rules tuple user (bind number peer) state refl (own_none tuple user state (bind_rows setup rules state tuple user number peer) can.permits.own (bind_fits setup rules tuple user number peer state can))))
     (record {
@@ -334,9 +339,9 @@ bind_granted setup rules state tuple user number peer can =
       channel = record {
         relay = bound_after now number peer a;
         is = is;
-        lasts = λ m _ soon. cond-true (is_channel m number whole) (Some whole) (find (is_channel m number) (filter (is_other_channel now number) a.channels))
+        lasts = λ m _ soon. cond-true (is_channel m number dont_fragment) (Some dont_fragment) (find (is_channel m number) (filter (is_other_channel now number) a.channels))
             (and_from (number == number) (nat_lt m (now + seconds 600)) (eq-eqb number number refl) (lt-ltb m (now + seconds 600) soon));
-        ends = λ m late. cond-false (is_channel m number whole) (Some whole) (find (is_channel m number) (filter (is_other_channel now number) a.channels))
+        ends = λ m late. cond-false (is_channel m number dont_fragment) (Some dont_fragment) (find (is_channel m number) (filter (is_other_channel now number) a.channels))
             (right_false (number == number) (nat_lt m (now + seconds 600)) (le-ltb m (now + seconds 600) late))
             ∙ find_none (is_channel m number) (filter (is_other_channel now number) a.channels) (not_among now m number a.channels);
       };

@@ -6,11 +6,11 @@ use Rattle.std.specs.Prelude.{◌==◌, ◌&&◌, max, min, count_by, is_some, �
 use Rattle.std.proofs.lemmas.Bool.{cond_both, cond-true, cond-false, and_from, or_left, or_right, false≢true, lt-ltb}
 use Rattle.stun_endpoints.specs.declared.endpoints.FiveTuple.{FiveTuple}
 use Rattle.stun_endpoints.specs.Endpoints.{is_tuple}
-use Rattle.turn_machine.specs.Relays.{seconds, Relay, Setup, Rules, State, is_of, is_for, is_users, is_his, has_room, has_quota}
+use Rattle.turn_machine.specs.Relays.{seconds, Relay, Setup, Rules, State, is_of, is_for, is_users, is_owned, has_room, has_quota}
 use Rattle.turn_machine.specs.Events.{Offer, Want, Given, Missing, allocate, allocated, answers}
 use Rattle.turn_machine.specs.Times.{granted_for, refreshed_for}
 use Rattle.turn_machine.specs.Opening.{opened, with_relay, has_of, can_open, opens_one, opens, given_to, missing_to, allocation_answer}
-use Rattle.turn_machine.specs.Rows.{row, has_any, is_anothers, has_anothers, own_rows, is_offered, is_ready, fault}
+use Rattle.turn_machine.specs.Rows.{row, has_any, is_of_another, has_of_another, own_rows, is_offered, is_ready, fault}
 use Rattle.turn_machine.specs.Steps.{keeping, serves}
 use Rattle.turn_machine.specs.Granting.{IsOpened, IsOwn, IsFit, given_of}
 use Rattle.turn_machine.proofs.AddressesLemmas.{tuple_is_itself}
@@ -26,11 +26,11 @@ filter_none test (x ∷ xs) each = cond-false (test x) (x ∷ filter test xs) (f
 free_none : (tuple : FiveTuple) (family : ℕ) (all : List Relay) → AllByRecursion (λ a. is_of tuple a ≡ false) all → list_any (is_for tuple family) all ≡ false
 free_none tuple family all free = none_any (is_for tuple family) all (each_map (λ a. is_of tuple a ≡ false) (λ a. is_for tuple family a ≡ false) (λ a is. left_false (is_of tuple a) (a.family == family) is) all free)
 
-pub free_again : (tuple : FiveTuple) (user id : ℕ) (all : List Relay) → AllByRecursion (λ a. is_of tuple a ≡ false) all → list_any (λ a. is_his tuple user a && (a.opened_by == id)) all ≡ false
+pub free_again : (tuple : FiveTuple) (user id : ℕ) (all : List Relay) → AllByRecursion (λ a. is_of tuple a ≡ false) all → list_any (λ a. is_owned tuple user a && (a.opened_by == id)) all ≡ false
 free_again tuple user id all free =
-    none_any (λ a. is_his tuple user a && (a.opened_by == id)) all
-    (each_map (λ a. is_of tuple a ≡ false) (λ a. (is_his tuple user a && (a.opened_by == id)) ≡ false)
-    (λ a is. left_false (is_his tuple user a) (a.opened_by == id) (left_false (is_of tuple a) (is_users user a) is)) all free)
+    none_any (λ a. is_owned tuple user a && (a.opened_by == id)) all
+    (each_map (λ a. is_of tuple a ≡ false) (λ a. (is_owned tuple user a && (a.opened_by == id)) ≡ false)
+    (λ a is. left_false (is_owned tuple user a) (a.opened_by == id) (left_false (is_of tuple a) (is_users user a) is)) all free)
 
 pub allocate_fits : (used family quota room ready : Bool) → used ≡ false → family ≡ true → quota ≡ true → room ≡ true → ready ≡ true → row used 437 (row (not family) 440 (row (not quota) 486 (row (not room) 508 (row (not ready) 508 None)))) ≡ None
 allocate_fits false true true true true a b c d e = refl
@@ -186,8 +186,8 @@ two_rows has true others a b c = absurd (false≢true (sym b))
 
 pub own_none : (tuple : FiveTuple) (user : ℕ) (state : State) (others : Option ℕ) → IsOwn tuple user state → others ≡ None → own_rows tuple user state others ≡ None
 own_none tuple user state others own none =
-    two_rows (has_any tuple state) (has_anothers tuple user state) others (some_any (is_of tuple) state.relays own.has)
-    (none_any (is_anothers tuple user) state.relays (each_map (λ a. is_of tuple a ≡ true → a.user ≡ user) (λ a. is_anothers tuple user a ≡ false) (λ a his. no_other (is_of tuple a) (is_users user a) (λ is. eq-eqb a.user user (his is))) state.relays own.his))
+    two_rows (has_any tuple state) (has_of_another tuple user state) others (some_any (is_of tuple) state.relays own.has)
+    (none_any (is_of_another tuple user) state.relays (each_map (λ a. is_of tuple a ≡ true → a.user ≡ user) (λ a. is_of_another tuple user a ≡ false) (λ a his. no_other (is_of tuple a) (is_users user a) (λ is. eq-eqb a.user user (his is))) state.relays own.his))
     none
 
 -- ---- Lifetimes

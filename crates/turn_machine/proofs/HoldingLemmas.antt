@@ -9,7 +9,7 @@ use Rattle.stun_endpoints.specs.declared.endpoints.Endpoint.{Endpoint}
 use Rattle.stun_endpoints.specs.declared.endpoints.FiveTuple.{FiveTuple}
 use Rattle.stun_endpoints.specs.Endpoints.{is_ip, is_endpoint, is_tuple}
 use Rattle.turn_machine.specs.Lists.{SomeOf}
-use Rattle.turn_machine.specs.Relays.{seconds, Permission, Channel, Relay, Setup, State, is_live, is_of, is_for, is_his, is_permission, is_permitted, is_channel, is_channel_of}
+use Rattle.turn_machine.specs.Relays.{seconds, Permission, Channel, Relay, Setup, State, is_live, is_of, is_for, is_owned, is_permission, is_permitted, is_channel, is_channel_of}
 use Rattle.turn_machine.specs.Times.{at}
 use Rattle.turn_machine.specs.Opening.{opened}
 use Rattle.turn_machine.specs.Rows.{is_other_permission, with_permission, with_permissions, peers_of, clashes}
@@ -32,8 +32,8 @@ IsSingle state = (tuple : FiveTuple) (family : ℕ) → count_by (is_for tuple f
 single_changed : (tuple : FiveTuple) (user : ℕ) (change : Relay → Relay) (state : State) → ((a : Relay) → (change a).tuple ≡ a.tuple) → ((a : Relay) → (change a).family ≡ a.family) → IsSingle state → IsSingle (changed tuple user change state)
 single_changed tuple user change state tuples families single other family =
     subst (λ (n : ℕ). n ≤ 1)
-    (sym (count_map (is_for other family) (is_for other family) (λ a. cond (is_his tuple user a) (change a) a)
-    (λ a. ap (λ (t : FiveTuple). is_tuple other t && ((cond (is_his tuple user a) (change a) a).family == family)) (his_same (λ b. b.tuple) tuple user change tuples a)
+    (sym (count_map (is_for other family) (is_for other family) (λ a. cond (is_owned tuple user a) (change a) a)
+    (λ a. ap (λ (t : FiveTuple). is_tuple other t && ((cond (is_owned tuple user a) (change a) a).family == family)) (his_same (λ b. b.tuple) tuple user change tuples a)
     ∙ ap (λ (f : ℕ). is_of other a && (f == family)) (his_same (λ b. b.family) tuple user change families a)) state.relays)) (single other family)
 
 none_counted : (test : Relay → Bool) (all : List Relay) → list_any test all ≡ false → count_by test all ≡ 0
@@ -79,7 +79,7 @@ pub record HasChannel (dest : Endpoint) (n channel : ℕ) (cs : List Channel) : 
   pub is_dest : c.peer ≡ dest
   pub only : AllByRecursion (λ d. is_channel_of n dest d ≡ true → d.number ≡ channel) cs
 
-pub record Held (tuple : FiveTuple) (user number first : ℕ) (dest : Endpoint) (n : ℕ) (since : List Happening) (state : State) : Type 0 where
+pub record OuterStep (tuple : FiveTuple) (user number first : ℕ) (dest : Endpoint) (n : ℕ) (since : List Happening) (state : State) : Type 0 where
   pub a : Relay
   pub found : relay_of tuple dest.ip.family state ≡ Some a
   pub user_is : a.user ≡ user
@@ -107,7 +107,7 @@ only_older P h since never (inl p) = absurd (never p)
 only_older P h since never (inr some) = some
 
 pub held_on : (tuple : FiveTuple) (user number first : ℕ) (dest : Endpoint) (n : ℕ) (h : Happening) (since : List Happening) (state after : State) → Grants_nothing tuple user number dest n h → state.clock ≤ after.clock
-    → relay_of tuple dest.ip.family after ≡ relay_of tuple dest.ip.family state → Held tuple user number first dest n since state → Held tuple user number first dest n (h ∷ since) after
+    → relay_of tuple dest.ip.family after ≡ relay_of tuple dest.ip.family state → OuterStep tuple user number first dest n since state → OuterStep tuple user number first dest n (h ∷ since) after
 held_on tuple user number first dest n h since state after g le same held = record {
   a = held.a;
   found = same ∙ held.found;
@@ -133,8 +133,8 @@ find_kept test keep (x ∷ xs) a is kept =
     cond_both (keep x) (x ∷ filter keep xs) (filter keep xs) (λ l. find test l ≡ Some a) (λ _. cond-false (test x) (Some x) (find test (filter keep xs)) other ∙ more) (λ _. more)) is
 
 -- time goes on
-pub held_at : (tuple : FiveTuple) (user number first : ℕ) (dest : Endpoint) (n : ℕ) (since : List Happening) (state : State) (now : ℕ) → max state.clock now < end_of tuple user dest.ip.family number first since → Held tuple user number first dest n since state
-    → Held tuple user number first dest n since (at now state)
+pub held_at : (tuple : FiveTuple) (user number first : ℕ) (dest : Endpoint) (n : ℕ) (since : List Happening) (state : State) (now : ℕ) → max state.clock now < end_of tuple user dest.ip.family number first since → OuterStep tuple user number first dest n since state
+    → OuterStep tuple user number first dest n since (at now state)
 held_at tuple user number first dest n since state now kept held =
     let ends = held.ends in record {
       a = held.a;

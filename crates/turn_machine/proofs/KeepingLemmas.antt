@@ -5,13 +5,13 @@ use Rattle.std.specs.Prelude.{◌==◌, max}
 use Rattle.std.proofs.lemmas.Bool.{cond_both, false≢true}
 use Rattle.stun_endpoints.specs.declared.endpoints.Endpoint.{Endpoint}
 use Rattle.stun_endpoints.specs.declared.endpoints.FiveTuple.{FiveTuple}
-use Rattle.turn_machine.specs.Relays.{seconds, Relay, Setup, Rules, State, is_users, is_his, is_at}
+use Rattle.turn_machine.specs.Relays.{seconds, Relay, Setup, Rules, State, is_users, is_owned, is_at}
 use Rattle.turn_machine.specs.Events.{Offer, Want, Request, allocate, unfit_allocate, refresh, permit, bind, unfit, Event, asks, sends, sends_on, arrives, bounces, ends, ends_user, ticks, refreshed, answers}
 use Rattle.turn_machine.specs.Times.{at, granted_for, refreshed_for}
 use Rattle.turn_machine.specs.Opening.{with_relay, can_open, opens_one, opens}
 use Rattle.turn_machine.specs.Rows.{fault}
 use Rattle.turn_machine.specs.Steps.{Step, changed, without, closing, is_wanted, lasting, permitting, binding, keeping, refreshes, fulfils, happens, step}
-use Rattle.turn_machine.specs.Runs.{Timed, begun, run}
+use Rattle.turn_machine.specs.Runs.{Timed, initial_state, run}
 use Rattle.turn_machine.proofs.CasesLemmas.{serve_cases}
 use Rattle.turn_machine.proofs.ListsLemmas.{each_always}
 use Rattle.turn_machine.specs.Quotas.{IsBy}
@@ -72,10 +72,10 @@ opens_keep setup Q tuple user id until met (want ∷ wants) state later q =
 refresh_keeps : (setup : Setup) (Who : ℕ → Type 0) (Q : State → Type 0) → Keeps setup Who Q → (tuple : FiveTuple) (user : ℕ) (family : Option ℕ) (lifetime : ℕ) (state : State) → Q state → Q (refreshes tuple user family lifetime state).state
 refresh_keeps setup Who Q keeps tuple user family lifetime state q =
     cond_both (lifetime == 0)
-    (closing (λ a. is_his tuple user a && is_wanted family a) (answers tuple (refreshed lifetime)) state)
+    (closing (λ a. is_owned tuple user a && is_wanted family a) (answers tuple (refreshed lifetime)) state)
     (keeping (changed tuple user (lasting family (state.clock + seconds lifetime)) state) (answers tuple (refreshed lifetime)))
     (λ (s : Step). Q s.state)
-    (λ _. keeps.ended (λ a. is_his tuple user a && is_wanted family a) state q)
+    (λ _. keeps.ended (λ a. is_owned tuple user a && is_wanted family a) state q)
     (λ some. keeps.lasted tuple user family (state.clock + seconds lifetime) state (not_zero state.clock lifetime some) q)
 
 fulfil_keeps : (setup : Setup) (Who : ℕ → Type 0) (Q : State → Type 0) → Keeps setup Who Q → (rules : Rules) (tuple : FiveTuple) (user : ℕ) (request : Request) (state : State) → fault setup rules state tuple user request ≡ None → Who user → Q state → Q (fulfils setup tuple user request state).state
@@ -95,7 +95,7 @@ happens_keeps setup Who Q keeps rules state (asks tuple user request) by q =
     serve_cases setup rules tuple user request state (λ (s : Step). Q s.state) (λ _ _ _. q) (λ _. q) (λ _ fit. fulfil_keeps setup Who Q keeps rules tuple user request state fit by q)
 happens_keeps setup Who Q keeps rules state (ends number) by q = keeps.ended (is_at number) state q
 happens_keeps setup Who Q keeps rules state (ends_user user) by q = keeps.ended (is_users user) state q
-happens_keeps setup Who Q keeps rules state (sends tuple peer whole bytes) by q = q
+happens_keeps setup Who Q keeps rules state (sends tuple peer dont_fragment bytes) by q = q
 happens_keeps setup Who Q keeps rules state (sends_on tuple number bytes) by q = q
 happens_keeps setup Who Q keeps rules state (arrives number peer bytes) by q = q
 happens_keeps setup Who Q keeps rules state (bounces number peer icmp) by q = q
@@ -104,7 +104,7 @@ happens_keeps setup Who Q keeps rules state ticks by q = q
 pub step_keeps : (setup : Setup) (Who : ℕ → Type 0) (Q : State → Type 0) → Keeps setup Who Q → (rules : Rules) (state : State) (now : ℕ) (event : Event) → IsBy Who event → Q state → Q (step setup rules state now event).state
 step_keeps setup Who Q keeps rules state now event by q = happens_keeps setup Who Q keeps rules (at now state) event by (keeps.time now state q)
 
-pub run_keeps_by : (setup : Setup) (Who : ℕ → Type 0) (Q : State → Type 0) → Keeps setup Who Q → Q begun → (events : List Timed) → AllByRecursion (λ t. IsBy Who t.event) events → Q (run setup events)
+pub run_keeps_by : (setup : Setup) (Who : ℕ → Type 0) (Q : State → Type 0) → Keeps setup Who Q → Q initial_state → (events : List Timed) → AllByRecursion (λ t. IsBy Who t.event) events → Q (run setup events)
 run_keeps_by setup Who Q keeps first [] by = first
 run_keeps_by setup Who Q keeps first (t ∷ events) by = step_keeps setup Who Q keeps t.rules (run setup events) t.now t.event by.0 (run_keeps_by setup Who Q keeps first events by.1)
 
@@ -113,7 +113,7 @@ Anyone user = Unit {0}
 
 pub by_anyone : (event : Event) → IsBy Anyone event
 by_anyone (asks tuple user request) = tt
-by_anyone (sends tuple peer whole bytes) = tt
+by_anyone (sends tuple peer dont_fragment bytes) = tt
 by_anyone (sends_on tuple number bytes) = tt
 by_anyone (arrives number peer bytes) = tt
 by_anyone (bounces number peer icmp) = tt
@@ -121,5 +121,5 @@ by_anyone (ends number) = tt
 by_anyone (ends_user user) = tt
 by_anyone ticks = tt
 
-pub run_keeps : (setup : Setup) (Q : State → Type 0) → Keeps setup Anyone Q → Q begun → (events : List Timed) → Q (run setup events)
+pub run_keeps : (setup : Setup) (Q : State → Type 0) → Keeps setup Anyone Q → Q initial_state → (events : List Timed) → Q (run setup events)
 run_keeps setup Q keeps first events = run_keeps_by setup Anyone Q keeps first events (each_always (λ t. IsBy Anyone t.event) (λ t. by_anyone t.event) events)

@@ -7,7 +7,7 @@ use Rattle.std.proofs.lemmas.Bool.{cond_both, false≢true}
 use Rattle.stun_endpoints.specs.declared.endpoints.Endpoint.{Endpoint}
 use Rattle.stun_endpoints.specs.declared.endpoints.FiveTuple.{FiveTuple}
 use Rattle.turn_machine.specs.Lists.{SomeOf, times}
-use Rattle.turn_machine.specs.Relays.{seconds, Relay, Setup, Rules, State, is_live, is_of, is_users, is_his, is_at}
+use Rattle.turn_machine.specs.Relays.{seconds, Relay, Setup, Rules, State, is_live, is_of, is_users, is_owned, is_at}
 use Rattle.turn_machine.specs.Events.{Offer, Want, Given, Request, allocate, unfit_allocate, refresh, permit, bind, unfit, Event, asks, sends, sends_on, arrives, bounces, ends, ends_user, ticks, allocated, refreshed, Output, answers, nothing}
 use Rattle.turn_machine.specs.Times.{at, numbers, over_at, granted_for, refreshed_for, left_of}
 use Rattle.turn_machine.specs.Opening.{number_for, opened, with_relay, opens_one, opens, given_to, missing_to, allocation_answer}
@@ -55,7 +55,7 @@ saves_without test output state = record { same = λ n. parted test state n; nex
 saves_changed : (tuple : FiveTuple) (user : ℕ) (change : Relay → Relay) (state : State) → ((a : Relay) → (change a).number ≡ a.number) → Saves state (changed tuple user change state) []
 saves_changed tuple user change state same = record {
   same = λ n.
-      let e = count_map (is_at n) (is_at n) (λ a. cond (is_his tuple user a) (change a) a) (λ a. ap (λ (m : ℕ). m == n) (his_same (λ b. b.number) tuple user change same a)) state.relays in
+      let e = count_map (is_at n) (is_at n) (λ a. cond (is_owned tuple user a) (change a) a) (λ a. ap (λ (m : ℕ). m == n) (his_same (λ b. b.number) tuple user change same a)) state.relays in
       omega (arith, e);
   next = refl;
 }
@@ -114,7 +114,7 @@ fulfil_once k setup tuple user (allocate id lifetime wants) state closed is = op
 fulfil_once k setup tuple user (unfit_allocate code) state closed is = is
 fulfil_once k setup tuple user (refresh family lifetime) state closed is =
     let granted = refreshed_for lifetime setup.greatest_lifetime in
-    let ended = λ (a : Relay). is_his tuple user a && is_wanted family a in
+    let ended = λ (a : Relay). is_owned tuple user a && is_wanted family a in
     let after = changed tuple user (lasting family (state.clock + seconds granted)) state in
     cond_both (granted == 0) (closing ended (answers tuple (refreshed granted)) state) (keeping after (answers tuple (refreshed granted))) (StepOnce k closed)
     (λ _. once_saved k state (without ended state) (numbers (filter ended state.relays)) closed (saves_without ended (answers tuple (refreshed granted)) state) is)
@@ -130,7 +130,7 @@ happens_once k setup rules state (asks tuple user request) closed is =
     serve_cases setup rules tuple user request state (StepOnce k closed) (λ _ _ _. is) (λ _. is) (λ _ _. fulfil_once k setup tuple user request state closed is)
 happens_once k setup rules state (ends number) closed is = once_saved k state (without (is_at number) state) (numbers (filter (is_at number) state.relays)) closed (saves_without (is_at number) nothing state) is
 happens_once k setup rules state (ends_user user) closed is = once_saved k state (without (is_users user) state) (numbers (filter (is_users user) state.relays)) closed (saves_without (is_users user) nothing state) is
-happens_once k setup rules state (sends tuple peer whole bytes) closed is = is
+happens_once k setup rules state (sends tuple peer dont_fragment bytes) closed is = is
 happens_once k setup rules state (sends_on tuple number bytes) closed is = is
 happens_once k setup rules state (arrives number peer bytes) closed is = is
 happens_once k setup rules state (bounces number peer icmp) closed is = is
@@ -211,7 +211,7 @@ fulfil_given n setup tuple user (allocate id lifetime wants) state g =
 fulfil_given n setup tuple user (unfit_allocate code) state g = let e = g.answered in absurd cc
 fulfil_given n setup tuple user (refresh family lifetime) state g =
     let granted = refreshed_for lifetime setup.greatest_lifetime in
-    cond_both (granted == 0) (closing (λ a. is_his tuple user a && is_wanted family a) (answers tuple (refreshed granted)) state)
+    cond_both (granted == 0) (closing (λ a. is_owned tuple user a && is_wanted family a) (answers tuple (refreshed granted)) state)
     (keeping (changed tuple user (lasting family (state.clock + seconds granted)) state) (answers tuple (refreshed granted)))
     (KeepsGiven n) (λ _ h. let e = h.answered in absurd cc) (λ _ h. let e = h.answered in absurd cc) g
 fulfil_given n setup tuple user (permit peers) state g = let e = g.answered in absurd cc
@@ -226,7 +226,7 @@ happens_given n setup rules state (asks tuple user request) g =
     serve_cases setup rules tuple user request state (KeepsGiven n) (λ _ _ _ g. let e = g.answered in absurd cc) (λ again g. again_given n setup tuple user request state again g) (λ _ _. fulfil_given n setup tuple user request state) g
 happens_given n setup rules state (ends number) g = absurd (no_answer n nothing refl g)
 happens_given n setup rules state (ends_user user) g = absurd (no_answer n nothing refl g)
-happens_given n setup rules state (sends tuple peer whole bytes) g = absurd (no_answer n (relayed setup rules state (sends tuple peer whole bytes)) (relayed_quiet setup rules state (sends tuple peer whole bytes)) g)
+happens_given n setup rules state (sends tuple peer dont_fragment bytes) g = absurd (no_answer n (relayed setup rules state (sends tuple peer dont_fragment bytes)) (relayed_quiet setup rules state (sends tuple peer dont_fragment bytes)) g)
 happens_given n setup rules state (sends_on tuple number bytes) g = absurd (no_answer n (relayed setup rules state (sends_on tuple number bytes)) (relayed_quiet setup rules state (sends_on tuple number bytes)) g)
 happens_given n setup rules state (arrives number peer bytes) g = absurd (no_answer n (relayed setup rules state (arrives number peer bytes)) (relayed_quiet setup rules state (arrives number peer bytes)) g)
 happens_given n setup rules state (bounces number peer icmp) g = absurd (no_answer n (relayed setup rules state (bounces number peer icmp)) (relayed_quiet setup rules state (bounces number peer icmp)) g)

@@ -137,9 +137,9 @@ lacking setup tuple user wants state e = by_rows (has_any tuple state) (list_any
 pub only_unready : (setup : Setup) (users : List ℕ) (events : List Timed) (rules : Rules) (now : ℕ) (tuple : FiveTuple) (user id : ℕ) (lifetime : Option ℕ) (wants : List Want)
     → AreBy users events → IsOneOf users user → length users * setup.most_of_user ≤ setup.most_relays
     → (step setup rules (run setup events) now (asks tuple user (allocate id lifetime wants))).output ≡ answers tuple (refused 508) → IsUnready setup wants
-only_unready setup users events rules now tuple user id lifetime wants by among fits told =
+only_unready setup users events rules now tuple user id lifetime wants by among fits reply =
     let state = at now (run setup events) in
-    let has = refused_for setup rules tuple user (allocate id lifetime wants) state 508 told in
+    let has = refused_for setup rules tuple user (allocate id lifetime wants) state 508 reply in
     let l = lacking setup tuple user wants state has.fault_is in
     let below = ltb-true (count_by (is_users user) state.relays) setup.most_of_user l.quota_is in
     let room = has_places setup users events now user 1 by among fits (omega (arith, below)) in

@@ -1,6 +1,6 @@
 -- Each code is answered exactly if its reason is so.
 use Rattle.std.proofs.lemmas.List.Sums.{length-filter}
-use Rattle.std.proofs.Common.{◌≡◌, ℕ, ◌<◌, ◌≤◌, inl, inr, Bool, true, false, not, List, [], ◌∷◌, length, Option, None, Some, refl, sym, ap, ◌∙◌, ltb-true, ltb-false, eqb-true, eq-eqb, cond, filter, ◌+◌, arith}
+use Rattle.std.proofs.Common.{◌≡◌, ℕ, ◌<◌, ◌≤◌, inl, inr, Bool, true, false, not, List, [], ◌∷◌, length, Option, None, Some, refl, sym, ap, subst, ◌∙◌, ltb-true, ltb-false, eqb-true, eq-eqb, cond, filter, ◌+◌, arith}
 use Rattle.std.specs.List.{AllByRecursion, list_any, list_all}
 use Rattle.std.specs.Prelude.{◌==◌, ◌||◌, ◌&&◌, count_by, nat_lt, is_some, ◌⊎◌}
 use Rattle.std.proofs.lemmas.Bool.{and_parts, and_from, or_left, or_right, or_cases, false≢true, lt-ltb, le-ltb, cond_both, cond-true, cond-false}
@@ -8,14 +8,14 @@ use Rattle.stun_endpoints.specs.declared.endpoints.Endpoint.{Endpoint}
 use Rattle.stun_endpoints.specs.declared.endpoints.FiveTuple.{FiveTuple}
 use Rattle.stun_endpoints.specs.Endpoints.{is_ip}
 use Rattle.turn_machine.specs.Lists.{SomeOf}
-use Rattle.turn_machine.specs.Relays.{Setup, Rules, State, is_of, is_for, is_users, is_his, has_room, has_quota, seconds, Permission, Channel}
-use Rattle.turn_machine.specs.Events.{Offer, Want, allocate, refresh, permit, bind, unfit, unfit_allocate}
+use Rattle.turn_machine.specs.Relays.{Setup, Rules, State, is_of, is_for, is_users, is_owned, has_room, has_quota, seconds, Permission, Channel, Relay}
+use Rattle.turn_machine.specs.Events.{Offer, Want, allocate, refresh, permit, bind, unfit, unfit_allocate, most_peers, permit_request}
 use Rattle.turn_machine.specs.Times.{at}
 use Rattle.turn_machine.specs.Opening.{has_of}
-use Rattle.turn_machine.specs.Rows.{row, has_any, is_anothers, has_anothers, is_offered, is_ready, has_wanted, permissions_after, lacks_permissions, have_families, clashes, is_bound_otherwise, is_channel_number, with_channel, lacks_channels, is_other_permission, is_other_channel, with_permissions}
+use Rattle.turn_machine.specs.Rows.{row, has_any, is_of_another, has_of_another, is_offered, is_ready, has_wanted, permissions_after, lacks_permissions, have_families, clashes, is_bound_otherwise, is_channel_number, with_channel, lacks_channels, is_other_permission, is_other_channel, with_permissions}
 use Rattle.turn_machine.specs.Data.{allows}
 use Rattle.turn_machine.specs.Granting.{IsClash, IsFree, HasOf, LacksOf, IsOwn}
-use Rattle.turn_machine.specs.Refusals.{IsAnothers, IsUnready, IsUncovered, HaveFamilies, LackFamily, LacksPermissions, LacksChannels, IsBadNumber, IsGoodNumber, IsAgain, AllocateRefusals, RefreshRefusals, PermitRefusals, BindRefusals, UnfitRefusals, is_left, IsRoomByLive, IsChannelRoomByLive}
+use Rattle.turn_machine.specs.Refusals.{IsOfAnother, IsUnready, IsUncovered, HaveFamilies, LackFamily, LacksPermissions, LacksChannels, IsBadNumber, IsGoodNumber, IsAgain, AllocateRefusals, RefreshRefusals, PermitRefusals, BindRefusals, UnfitRefusals, is_left, IsRoomByLive, IsChannelRoomByLive}
 use Rattle.turn_machine.proofs.ListsLemmas.{each_map, none_any, any_none, some_any, any_some, some_map, all_each, each_all, some_not_all, not_all_some, count_cons, right_false}
 use Rattle.turn_machine.proofs.RowsLemmas.{not_no, not_yes, is_clash, clash_is, no_clash_is, is_no_clash}
 use Rattle.turn_machine.proofs.FaultLemmas.{refused_for, for_refused}
@@ -46,29 +46,29 @@ not_anothers : (of his : Bool) → (of ≡ true → his ≡ true) → (of && not
 not_anothers true his f = ap not (f refl)
 not_anothers false his f = refl
 
-own : (tuple : FiveTuple) (user : ℕ) (s : State) → has_any tuple s ≡ true → has_anothers tuple user s ≡ false → IsOwn tuple user s
+own : (tuple : FiveTuple) (user : ℕ) (s : State) → has_any tuple s ≡ true → has_of_another tuple user s ≡ false → IsOwn tuple user s
 own tuple user s has none = record {
   has = any_some (is_of tuple) s.relays has;
-  his = each_map (λ a. is_anothers tuple user a ≡ false) (λ a. is_of tuple a ≡ true → a.user ≡ user) (λ a isnt is. eqb-true a.user user (mine (is_of tuple a) (is_users user a) isnt is)) s.relays (any_none (is_anothers tuple user) s.relays none);
+  his = each_map (λ a. is_of_another tuple user a ≡ false) (λ a. is_of tuple a ≡ true → a.user ≡ user) (λ a isnt is. eqb-true a.user user (mine (is_of tuple a) (is_users user a) isnt is)) s.relays (any_none (is_of_another tuple user) s.relays none);
 }
 
 own_has : (tuple : FiveTuple) (user : ℕ) (s : State) → IsOwn tuple user s → not (has_any tuple s) ≡ false
 own_has tuple user s o = ap not (some_any (is_of tuple) s.relays o.has)
 
-own_his : (tuple : FiveTuple) (user : ℕ) (s : State) → IsOwn tuple user s → has_anothers tuple user s ≡ false
+own_his : (tuple : FiveTuple) (user : ℕ) (s : State) → IsOwn tuple user s → has_of_another tuple user s ≡ false
 own_his tuple user s o =
-    none_any (is_anothers tuple user) s.relays (each_map (λ a. is_of tuple a ≡ true → a.user ≡ user) (λ a. is_anothers tuple user a ≡ false) (λ a f. not_anothers (is_of tuple a) (is_users user a) (λ is. eq-eqb a.user user (f is))) s.relays o.his)
+    none_any (is_of_another tuple user) s.relays (each_map (λ a. is_of tuple a ≡ true → a.user ≡ user) (λ a. is_of_another tuple user a ≡ false) (λ a f. not_anothers (is_of tuple a) (is_users user a) (λ is. eq-eqb a.user user (f is))) s.relays o.his)
 
-anothers : (tuple : FiveTuple) (user : ℕ) (s : State) → has_anothers tuple user s ≡ true → IsAnothers tuple user s
+anothers : (tuple : FiveTuple) (user : ℕ) (s : State) → has_of_another tuple user s ≡ true → IsOfAnother tuple user s
 anothers tuple user s any =
-    some_map (λ a. is_anothers tuple user a ≡ true) (λ a. (is_of tuple a ≡ true) × (is_users user a ≡ false)) (λ a is. let both = and_parts (is_of tuple a) (not (is_users user a)) is in (both.0, not_yes (is_users user a) both.1)) s.relays (any_some (is_anothers tuple user) s.relays any)
+    some_map (λ a. is_of_another tuple user a ≡ true) (λ a. (is_of tuple a ≡ true) × (is_users user a ≡ false)) (λ a is. let both = and_parts (is_of tuple a) (not (is_users user a)) is in (both.0, not_yes (is_users user a) both.1)) s.relays (any_some (is_of_another tuple user) s.relays any)
 
-anothers_has : (tuple : FiveTuple) (user : ℕ) (s : State) → IsAnothers tuple user s → not (has_any tuple s) ≡ false
+anothers_has : (tuple : FiveTuple) (user : ℕ) (s : State) → IsOfAnother tuple user s → not (has_any tuple s) ≡ false
 anothers_has tuple user s some = ap not (some_any (is_of tuple) s.relays (some_map (λ a. (is_of tuple a ≡ true) × (is_users user a ≡ false)) (λ a. is_of tuple a ≡ true) (λ a both. both.0) s.relays some))
 
-anothers_is : (tuple : FiveTuple) (user : ℕ) (s : State) → IsAnothers tuple user s → has_anothers tuple user s ≡ true
+anothers_is : (tuple : FiveTuple) (user : ℕ) (s : State) → IsOfAnother tuple user s → has_of_another tuple user s ≡ true
 anothers_is tuple user s some =
-    some_any (is_anothers tuple user) s.relays (some_map (λ a. (is_of tuple a ≡ true) × (is_users user a ≡ false)) (λ a. is_anothers tuple user a ≡ true) (λ a both. and_from (is_of tuple a) (not (is_users user a)) both.0 (ap not both.1)) s.relays some)
+    some_any (is_of_another tuple user) s.relays (some_map (λ a. (is_of tuple a ≡ true) × (is_users user a ≡ false)) (λ a. is_of_another tuple user a ≡ true) (λ a both. and_from (is_of tuple a) (not (is_users user a)) both.0 (ap not both.1)) s.relays some)
 
 families : (tuple : FiveTuple) (peers : List Endpoint) (s : State) → have_families tuple peers s ≡ true → HaveFamilies tuple peers s
 families tuple peers s all =
@@ -88,27 +88,31 @@ lacks_family tuple peers s some =
 
 no_permissions : (setup : Setup) (tuple : FiveTuple) (user : ℕ) (peers : List Endpoint) (s : State) → list_any (lacks_permissions setup s.clock tuple user peers) s.relays ≡ true → LacksPermissions setup tuple user peers s
 no_permissions setup tuple user peers s any =
-    some_map (λ a. lacks_permissions setup s.clock tuple user peers a ≡ true) (λ a. (is_his tuple user a ≡ true) × (setup.most_permissions < length (permissions_after s.clock peers a)))
-    (λ a is. let both = and_parts (is_his tuple user a) (nat_lt setup.most_permissions (length (permissions_after s.clock peers a))) is in (both.0, ltb-true setup.most_permissions (length (permissions_after s.clock peers a)) both.1))
+    some_map (λ a. lacks_permissions setup s.clock tuple user peers a ≡ true) (λ a. (is_owned tuple user a ≡ true) × (setup.most_permissions < length (permissions_after s.clock peers a)))
+    (λ a is. let both = and_parts (is_owned tuple user a) (nat_lt setup.most_permissions (length (permissions_after s.clock peers a))) is in (both.0, ltb-true setup.most_permissions (length (permissions_after s.clock peers a)) both.1))
     s.relays (any_some (lacks_permissions setup s.clock tuple user peers) s.relays any)
 
 permissions_lack : (setup : Setup) (tuple : FiveTuple) (user : ℕ) (peers : List Endpoint) (s : State) → LacksPermissions setup tuple user peers s → list_any (lacks_permissions setup s.clock tuple user peers) s.relays ≡ true
 permissions_lack setup tuple user peers s some =
     some_any (lacks_permissions setup s.clock tuple user peers) s.relays
-    (some_map (λ a. (is_his tuple user a ≡ true) × (setup.most_permissions < length (permissions_after s.clock peers a))) (λ a. lacks_permissions setup s.clock tuple user peers a ≡ true)
-    (λ a both. and_from (is_his tuple user a) (nat_lt setup.most_permissions (length (permissions_after s.clock peers a))) both.0 (lt-ltb setup.most_permissions (length (permissions_after s.clock peers a)) both.1)) s.relays some)
+    (some_map (λ a. (is_owned tuple user a ≡ true) × (setup.most_permissions < length (permissions_after s.clock peers a))) (λ a. lacks_permissions setup s.clock tuple user peers a ≡ true)
+    (λ a both. and_from (is_owned tuple user a) (nat_lt setup.most_permissions (length (permissions_after s.clock peers a))) both.0 (lt-ltb setup.most_permissions (length (permissions_after s.clock peers a)) both.1)) s.relays some)
 
 no_channels : (setup : Setup) (tuple : FiveTuple) (user number : ℕ) (peer : Endpoint) (s : State) → list_any (lacks_channels setup s.clock tuple user number peer) s.relays ≡ true → LacksChannels setup tuple user number peer s
 no_channels setup tuple user number peer s any =
-    some_map (λ a. lacks_channels setup s.clock tuple user number peer a ≡ true) (λ a. (is_his tuple user a ≡ true) × (setup.most_channels < length (with_channel s.clock number peer a.channels)))
-    (λ a is. let both = and_parts (is_his tuple user a) (nat_lt setup.most_channels (length (with_channel s.clock number peer a.channels))) is in (both.0, ltb-true setup.most_channels (length (with_channel s.clock number peer a.channels)) both.1))
+    some_map (λ a. lacks_channels setup s.clock tuple user number peer a ≡ true) (λ a. (is_owned tuple user a ≡ true) × (a.family ≡ peer.ip.family) × (setup.most_channels < length (with_channel s.clock number peer a.channels)))
+    (λ a is.
+    let both = and_parts (is_owned tuple user a) ((peer.ip.family == a.family) && nat_lt setup.most_channels (length (with_channel s.clock number peer a.channels))) is in
+    let more = and_parts (peer.ip.family == a.family) (nat_lt setup.most_channels (length (with_channel s.clock number peer a.channels))) both.1 in
+    (both.0, sym (eqb-true peer.ip.family a.family more.0), ltb-true setup.most_channels (length (with_channel s.clock number peer a.channels)) more.1))
     s.relays (any_some (lacks_channels setup s.clock tuple user number peer) s.relays any)
 
 channels_lack : (setup : Setup) (tuple : FiveTuple) (user number : ℕ) (peer : Endpoint) (s : State) → LacksChannels setup tuple user number peer s → list_any (lacks_channels setup s.clock tuple user number peer) s.relays ≡ true
 channels_lack setup tuple user number peer s some =
     some_any (lacks_channels setup s.clock tuple user number peer) s.relays
-    (some_map (λ a. (is_his tuple user a ≡ true) × (setup.most_channels < length (with_channel s.clock number peer a.channels))) (λ a. lacks_channels setup s.clock tuple user number peer a ≡ true)
-    (λ a both. and_from (is_his tuple user a) (nat_lt setup.most_channels (length (with_channel s.clock number peer a.channels))) both.0 (lt-ltb setup.most_channels (length (with_channel s.clock number peer a.channels)) both.1)) s.relays some)
+    (some_map (λ a. (is_owned tuple user a ≡ true) × (a.family ≡ peer.ip.family) × (setup.most_channels < length (with_channel s.clock number peer a.channels))) (λ a. lacks_channels setup s.clock tuple user number peer a ≡ true)
+    (λ a is. and_from (is_owned tuple user a) ((peer.ip.family == a.family) && nat_lt setup.most_channels (length (with_channel s.clock number peer a.channels))) is.0
+    (and_from (peer.ip.family == a.family) (nat_lt setup.most_channels (length (with_channel s.clock number peer a.channels))) (eq-eqb peer.ip.family a.family (sym is.1)) (lt-ltb setup.most_channels (length (with_channel s.clock number peer a.channels)) is.2))) s.relays some)
 
 bound_otherwise : (tuple : FiveTuple) (number : ℕ) (peer : Endpoint) (s : State) → list_any (is_bound_otherwise s.clock tuple number peer) s.relays ≡ true → SomeOf (λ a. (is_of tuple a ≡ true) × SomeOf (IsClash s.clock number peer) a.channels) s.relays
 bound_otherwise tuple number peer s any =
@@ -187,7 +191,7 @@ refresh_refusals setup rules state now tuple user family lifetime =
     let s = at now state in
     let r = refresh family lifetime in
     let t1 = not (has_any tuple s) in
-    let t2 = has_anothers tuple user s in
+    let t2 = has_of_another tuple user s in
     let t3 = not (has_wanted tuple family s) in
     record {
       mismatch = (
@@ -213,7 +217,7 @@ permit_refusals setup rules state now tuple user peers =
     let r = permit peers in
     let allowed = λ (peer : Endpoint). rules.allows_ip peer.ip in
     let t1 = not (has_any tuple s) in
-    let t2 = has_anothers tuple user s in
+    let t2 = has_of_another tuple user s in
     let t3 = not (have_families tuple peers s) in
     let t4 = not (list_all allowed peers) in
     let t5 = list_any (lacks_permissions setup s.clock tuple user peers) s.relays in
@@ -270,7 +274,7 @@ bind_refusals setup rules state now tuple user number peer =
     let s = at now state in
     let r = bind number peer in
     let t1 = not (has_any tuple s) in
-    let t2 = has_anothers tuple user s in
+    let t2 = has_of_another tuple user s in
     let t3 = not (is_channel_number setup number) in
     let t4 = list_any (is_bound_otherwise s.clock tuple number peer) s.relays in
     let t5 = not (has_of tuple peer.ip.family s) in
@@ -325,16 +329,16 @@ bind_refusals setup rules state now tuple user number peer =
 
 -- ---- Allocate
 
-again_of : (tuple : FiveTuple) (user id : ℕ) (s : State) → list_any (λ a. is_his tuple user a && (a.opened_by == id)) s.relays ≡ false → IsAgain tuple user id s → ⊥
+again_of : (tuple : FiveTuple) (user id : ℕ) (s : State) → list_any (λ a. is_owned tuple user a && (a.opened_by == id)) s.relays ≡ false → IsAgain tuple user id s → ⊥
 again_of tuple user id s none some =
-    false≢true (sym none ∙ some_any (λ a. is_his tuple user a && (a.opened_by == id)) s.relays
-    (some_map (λ a. (is_his tuple user a ≡ true) × (a.opened_by ≡ id)) (λ a. (is_his tuple user a && (a.opened_by == id)) ≡ true) (λ a both. and_from (is_his tuple user a) (a.opened_by == id) both.0 (eq-eqb a.opened_by id both.1)) s.relays some))
+    false≢true (sym none ∙ some_any (λ a. is_owned tuple user a && (a.opened_by == id)) s.relays
+    (some_map (λ a. (is_owned tuple user a ≡ true) × (a.opened_by ≡ id)) (λ a. (is_owned tuple user a && (a.opened_by == id)) ≡ true) (λ a both. and_from (is_owned tuple user a) (a.opened_by == id) both.0 (eq-eqb a.opened_by id both.1)) s.relays some))
 
-not_again : (tuple : FiveTuple) (user id : ℕ) (s : State) → (IsAgain tuple user id s → ⊥) → list_any (λ a. is_his tuple user a && (a.opened_by == id)) s.relays ≡ false
+not_again : (tuple : FiveTuple) (user id : ℕ) (s : State) → (IsAgain tuple user id s → ⊥) → list_any (λ a. is_owned tuple user a && (a.opened_by == id)) s.relays ≡ false
 not_again tuple user id s never =
-    not_true (list_any (λ a. is_his tuple user a && (a.opened_by == id)) s.relays)
-    (λ any. never (some_map (λ a. (is_his tuple user a && (a.opened_by == id)) ≡ true) (λ a. (is_his tuple user a ≡ true) × (a.opened_by ≡ id))
-    (λ a is. let both = and_parts (is_his tuple user a) (a.opened_by == id) is in (both.0, eqb-true a.opened_by id both.1)) s.relays (any_some (λ a. is_his tuple user a && (a.opened_by == id)) s.relays any)))
+    not_true (list_any (λ a. is_owned tuple user a && (a.opened_by == id)) s.relays)
+    (λ any. never (some_map (λ a. (is_owned tuple user a && (a.opened_by == id)) ≡ true) (λ a. (is_owned tuple user a ≡ true) × (a.opened_by ≡ id))
+    (λ a is. let both = and_parts (is_owned tuple user a) (a.opened_by == id) is in (both.0, eqb-true a.opened_by id both.1)) s.relays (any_some (λ a. is_owned tuple user a && (a.opened_by == id)) s.relays any)))
 
 unready_none : (setup : Setup) (wants : List Want) → IsUnready setup wants → list_any (is_ready setup) wants ≡ false
 unready_none setup wants each =
@@ -422,7 +426,7 @@ pub unfit_refusals : (setup : Setup) (rules : Rules) (state : State) (now : ℕ)
 unfit_refusals setup rules state now tuple user code =
     let s = at now state in
     let has = has_any tuple s in
-    let anothers_are = has_anothers tuple user s in
+    let anothers_are = has_of_another tuple user s in
     record {
       in_use = λ is. for_refused setup rules tuple user (unfit_allocate code) s 437 (record { new = refl; fault_is = in_use_row has code (some_any (is_of tuple) s.relays is) });
       allocate = λ is. for_refused setup rules tuple user (unfit_allocate code) s code (record { new = refl; fault_is = free_row has code (free_has tuple s is) });
@@ -454,14 +458,14 @@ count_filtered : {X : Type 0} (p keep : X → Bool) (xs : List X) → count_by p
 count_filtered p keep [] = refl
 count_filtered p keep (x ∷ xs) =
     let more = count_filtered p keep xs in
-    let whole = count_cons (λ y. p y && keep y) x xs in
+    let dont_fragment = count_cons (λ y. p y && keep y) x xs in
     cond_both (keep x) true false (λ (b : Bool). keep x ≡ b → count_by p (filter keep (x ∷ xs)) ≡ count_by (λ y. p y && keep y) (x ∷ xs))
     (λ _ is.
     ap (λ l. count_by p l) (cond-true (keep x) (x ∷ filter keep xs) (filter keep xs) is)
-    ∙ (count_cons p x (filter keep xs) ∙ (ap (λ (n : ℕ). cond (p x) 1 0 + n) more ∙ (ap (λ (b : Bool). cond b 1 0 + count_by (λ y. p y && keep y) xs) (with_true (p x) (keep x) is) ∙ sym whole))))
+    ∙ (count_cons p x (filter keep xs) ∙ (ap (λ (n : ℕ). cond (p x) 1 0 + n) more ∙ (ap (λ (b : Bool). cond b 1 0 + count_by (λ y. p y && keep y) xs) (with_true (p x) (keep x) is) ∙ sym dont_fragment))))
     (λ _ isnt.
     ap (λ l. count_by p l) (cond-false (keep x) (x ∷ filter keep xs) (filter keep xs) isnt)
-    ∙ (more ∙ (zero_more (count_by (λ y. p y && keep y) xs) ∙ (ap (λ (b : Bool). cond b 1 0 + count_by (λ y. p y && keep y) xs) (sym (right_false (p x) (keep x) isnt)) ∙ sym whole))))
+    ∙ (more ∙ (zero_more (count_by (λ y. p y && keep y) xs) ∙ (ap (λ (b : Bool). cond b 1 0 + count_by (λ y. p y && keep y) xs) (sym (right_false (p x) (keep x) isnt)) ∙ sym dont_fragment))))
     (same_cond (keep x))
 
 one_at_most : (b : Bool) (n m : ℕ) → n ≤ m → cond b 1 0 + n ≤ 1 + m
@@ -507,11 +511,23 @@ count_all : {X : Type 0} (xs : List X) → count_by (λ x. true) xs ≡ length x
 count_all [] = refl
 count_all (x ∷ xs) = let more = count_all xs in let here = count_cons (λ y. true) x xs in omega (arith, more, here)
 
-pub room_by_live : (now : ℕ) (peer : Endpoint) (peers : List Endpoint) (ps : List Permission) → IsRoomByLive now peer peers ps
-room_by_live now peer peers ps =
-    let added = count_added (λ p. true) now peer peers ps in
-    let all = count_all (with_permissions now (peer ∷ peers) ps) in
+some_room : (now : ℕ) (first : Endpoint) (more : List Endpoint) (ps : List Permission) → length (with_permissions now (first ∷ more) ps) ≤ length (first ∷ more) + count_by (is_left now (first ∷ more)) ps
+some_room now first more ps =
+    let added = count_added (λ p. true) now first more ps in
+    let all = count_all (with_permissions now (first ∷ more) ps) in
     omega (arith, added, all)
+
+pub room_by_live : (now : ℕ) (peers : List Endpoint) (a : Relay) → IsRoomByLive now peers a
+room_by_live now peers a = record {
+  some = λ first more are. subst (λ (l : List Endpoint). length (with_permissions now l a.permissions) ≤ length (first ∷ more) + count_by (is_left now (first ∷ more)) a.permissions) (sym are) (some_room now first more a.permissions);
+  none = λ are. ap (λ (l : List Endpoint). with_permissions now l a.permissions) are;
+}
+
+pub many_peers : (peers : List Endpoint) → 64 < length peers → permit_request peers ≡ unfit 508
+many_peers peers many = cond-true (nat_lt most_peers (length peers)) (unfit 508) (permit peers) (lt-ltb 64 (length peers) many)
+
+pub few_peers : (peers : List Endpoint) → length peers ≤ 64 → permit_request peers ≡ permit peers
+few_peers peers few = cond-false (nat_lt most_peers (length peers)) (unfit 508) (permit peers) (le-ltb 64 (length peers) few)
 
 pub channel_room_by_live : (now number : ℕ) (peer : Endpoint) (cs : List Channel) → IsChannelRoomByLive now number peer cs
 channel_room_by_live now number peer cs = let e = length-filter (is_other_channel now number) cs in omega (arith, e)

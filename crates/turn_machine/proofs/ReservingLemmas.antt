@@ -1,24 +1,25 @@
 -- Reservations: each run is a run of the machine; a token lasts 30 seconds and serves once.
 use Rattle.std.proofs.Common.{inr, ◌≡◌, ℕ, ◌+◌, ◌<◌, ◌≤◌, Bool, true, false, not, cond, List, [], ◌∷◌, filter, find, Option, None, Some, refl, sym, ap, ◌∙◌, subst, eqb-true, eq-eqb, ltb-true, zero-le, arith}
-use Rattle.std.specs.List.{AllByRecursion}
 use Rattle.std.specs.Option.{option_map_or}
 use Rattle.std.specs.Prelude.{◌==◌, ◌&&◌, max, count_by, nat_lt, is_some}
 use Rattle.std.proofs.lemmas.Bool.{cond_both, cond-true, cond-false, and_parts, and_from, lt-ltb}
 use Rattle.stun_endpoints.specs.declared.endpoints.FiveTuple.{FiveTuple}
 use Rattle.stun_endpoints.specs.Endpoints.{is_tuple}
-use Rattle.turn_machine.specs.Relays.{seconds, Setup, Rules, State, is_of}
-use Rattle.turn_machine.specs.Events.{Offer, Want, allocate, asks, allocated, Output, answers}
+use Rattle.turn_machine.specs.Relays.{seconds, Setup, Rules, State, is_of, is_owned}
+use Rattle.turn_machine.specs.Events.{Offer, Want, allocate, asks, allocated, refused, Output, answers}
 use Rattle.turn_machine.specs.Times.{at, granted_for}
 use Rattle.turn_machine.specs.Opening.{opened}
 use Rattle.turn_machine.specs.Rows.{has_any}
-use Rattle.turn_machine.specs.Steps.{Step, step}
+use Rattle.turn_machine.specs.Steps.{Step, step, keeping, is_again, answers_again, serves_new, serves}
 use Rattle.turn_machine.specs.Runs.{run, history}
 use Rattle.turn_machine.specs.Examples.{outputs}
-use Rattle.turn_machine.specs.Granting.{IsFit, given_of}
-use Rattle.turn_machine.specs.Reserving.{Reservation, Holding, reserved_by, Outer, plain, reserves, claims, is_held, held_at, is_users_held, is_claim, is_token, can_reserve, pair_want, reserved_want, no_want, inner, is_success, is_opening, reservation, held_after, is_reserved_by, token_for, outer_step, OuterTimed, outer_run, inner_run, outer_outputs}
+use Rattle.turn_machine.specs.Granting.{IsFit, Has, given_of}
+use Rattle.turn_machine.specs.Refusals.{IsAgain}
+use Rattle.turn_machine.specs.Reservations.{live_at, IsBelowQuota, held_for, made_by, IsReserved}
+use Rattle.turn_machine.specs.Reserving.{Reservation, OuterState, Outer, plain, reserves, claims, is_held, held_at, is_users_held, is_token, can_reserve, pair_want, reserved_want, no_want, inner, is_success, is_opening, reservation, held_after, is_reserved_by, token_for, outer_step, OuterTimed, outer_run, inner_run, outer_outputs}
 use Rattle.turn_machine.proofs.AddressesLemmas.{tuple_is_itself}
-use Rattle.turn_machine.proofs.ListsLemmas.{each_map, none_any, count_cons, count_filter}
-use Rattle.turn_machine.proofs.GrantedLemmas.{find_none, not_true}
+use Rattle.turn_machine.proofs.ListsLemmas.{none_any, some_any, some_map, left_false, right_false, count_cons, count_filter}
+use Rattle.turn_machine.proofs.AgainLemmas.{is_again_of}
 use Rattle.turn_machine.proofs.GrantingLemmas.{one_granted, unmet}
 use Rattle.turn_machine.proofs.CasesLemmas.{serve_cases}
 
@@ -80,11 +81,11 @@ OneAnswer setup tuple user id lifetime want offer s =
     let granted = granted_for lifetime setup.greatest_lifetime in
     answers tuple (allocated (given_of (opened tuple user id (s.clock + seconds granted) want.family s offer) ∷ []) granted [])
 
-pub reserved : (setup : Setup) (rules : Rules) (h : Holding) (now : ℕ) (tuple : FiveTuple) (user id : ℕ) (lifetime : Option ℕ) (want : Want) (offer next : Offer) (token : ℕ)
-    → let s = at now h.state in let held = held_at now h in let r = reserved_by s.clock tuple user id want next token in
+pub reserved : (setup : Setup) (rules : Rules) (h : OuterState) (now : ℕ) (tuple : FiveTuple) (user id : ℕ) (lifetime : Option ℕ) (want : Want) (offer next : Offer) (token : ℕ)
+    → let s = at now h.state in let held = live_at s.clock h.held in
     let done = outer_step setup rules h now (reserves tuple user id lifetime want (Some next) token) in
-    IsFit setup tuple user want offer s → count_by (λ x. x.user == user) held < setup.most_of_user
-    → (done.step ≡ step setup rules h.state now (asks tuple user (allocate id lifetime (want ∷ [])))) × (done.token ≡ Some token) × (done.holding.held ≡ r ∷ held)
+    IsFit setup tuple user want offer s → IsBelowQuota setup user held
+    → (r : Reservation) × IsReserved s.clock tuple user id want next token r × (done.holding.held ≡ r ∷ held) × (done.token ≡ Some token) × (done.step ≡ step setup rules h.state now (asks tuple user (allocate id lifetime (want ∷ []))))
 reserved setup rules h now tuple user id lifetime want offer next token fit room =
     let s = at now h.state in
     let held = held_at now h in
@@ -92,64 +93,110 @@ reserved setup rules h now tuple user id lifetime want offer next token fit room
     let want_is : pair_want setup user want (Some next) held ≡ want = ap (λ (o : Option Offer). record { family = want.family; ready = o }) (cond-true (can_reserve setup user (Some next) held) want.ready None can) in
     let event = inner setup s held (reserves tuple user id lifetime want (Some next) token) in
     let same : step setup rules h.state now event ≡ step setup rules h.state now (asks tuple user (allocate id lifetime (want ∷ []))) = ap (λ (w : Want). step setup rules h.state now (asks tuple user (allocate id lifetime (w ∷ [])))) want_is in
-    let told : (step setup rules h.state now event).output ≡ OneAnswer setup tuple user id lifetime want offer s =
+    let reply : (step setup rules h.state now event).output ≡ OneAnswer setup tuple user id lifetime want offer s =
     ap (λ (x : Step). x.output) same
     ∙ ap (λ (x : Step). x.output) (one_granted setup rules s tuple user id lifetime want offer fit) in
     let outer = reserves tuple user id lifetime want (Some next) token in
     let r : Reservation = record { token = token; user = user; tuple = tuple; id = id; family = want.family; offer = next; until = s.clock + seconds 30 } in
     let opening : is_opening tuple s (step setup rules h.state now event).output ≡ true =
-    and_from (not (has_any tuple s)) (is_success (step setup rules h.state now event).output) (ap not (none_any (is_of tuple) s.relays fit.free)) (ap is_success told) in
+    and_from (not (has_any tuple s)) (is_success (step setup rules h.state now event).output) (ap not (none_any (is_of tuple) s.relays fit.free)) (ap is_success reply) in
     let kept : held_after setup s outer (step setup rules h.state now event).output held ≡ r ∷ held =
     cond-true (is_opening tuple s (step setup rules h.state now event).output && can_reserve setup user (Some next) held) (r ∷ held) held (and_from (is_opening tuple s (step setup rules h.state now event).output) (can_reserve setup user (Some next) held) opening can) in
     let found : find (is_reserved_by tuple id) (r ∷ held) ≡ Some r = cond-true (is_reserved_by tuple id r) (Some r) (find (is_reserved_by tuple id) held) (and_from (is_tuple tuple tuple) (id == id) (tuple_is_itself tuple) (eq-eqb id id refl)) in (
-      same,
-      ap (λ (l : List Reservation). token_for outer (step setup rules h.state now event).output l) kept
-          ∙ (cond-true (is_success (step setup rules h.state now event).output) (option_map_or (λ (x : Reservation). Some x.token) (find (is_reserved_by tuple id) (r ∷ held)) None) None (ap is_success told)
-          ∙ ap (λ (o : Option Reservation). option_map_or (λ (x : Reservation). Some x.token) o None) found),
+      r,
+      record { token_is = refl; whose = (refl, refl, refl); socket = (refl, refl); until_is = refl },
       kept,
+      ap (λ (l : List Reservation). token_for outer (step setup rules h.state now event).output l) kept
+          ∙ (cond-true (is_success (step setup rules h.state now event).output) (option_map_or (λ (x : Reservation). Some x.token) (find (is_reserved_by tuple id) (r ∷ held)) None) None (ap is_success reply)
+          ∙ ap (λ (o : Option Reservation). option_map_or (λ (x : Reservation). Some x.token) o None) found),
+      same,
     )
 
 -- ---- A token serves its user, once
 
-same_cond : (b : Bool) → b ≡ cond b true false
-same_cond true = refl
-same_cond false = refl
-
-gone : (token : ℕ) (held : List Reservation) → find (is_token token) (filter (λ r. not (is_token token r)) held) ≡ None
-gone token [] = refl
-gone token (r ∷ held) =
-    let more = gone token held in
-    cond_both (is_token token r) true false (λ (b : Bool). is_token token r ≡ b → find (is_token token) (filter (λ x. not (is_token token x)) (r ∷ held)) ≡ None)
-    (λ _ is. ap (λ (l : List Reservation). find (is_token token) l) (cond-false (not (is_token token r)) (r ∷ filter (λ x. not (is_token token x)) held) (filter (λ x. not (is_token token x)) held) (ap not is)) ∙ more)
-    (λ _ isnt. ap (λ (l : List Reservation). find (is_token token) l) (cond-true (not (is_token token r)) (r ∷ filter (λ x. not (is_token token x)) held) (filter (λ x. not (is_token token x)) held) (ap not isnt))
-    ∙ (cond-false (is_token token r) (Some r) (find (is_token token) (filter (λ x. not (is_token token x)) held)) isnt ∙ more)) (same_cond (is_token token r))
-
-pub claimed : (setup : Setup) (rules : Rules) (h : Holding) (now : ℕ) (tuple : FiveTuple) (user id : ℕ) (lifetime : Option ℕ) (token : ℕ) (r : Reservation)
-    → let done = outer_step setup rules h now (claims tuple user id lifetime token) in
-    find (is_claim user token) (held_at now h) ≡ Some r → IsFit setup tuple user (reserved_want r) r.offer (at now h.state)
-    → (done.step ≡ step setup rules h.state now (asks tuple user (allocate id lifetime (reserved_want r ∷ [])))) × (find (is_token token) done.holding.held ≡ None)
+pub claimed : (setup : Setup) (rules : Rules) (h : OuterState) (now : ℕ) (tuple : FiveTuple) (user id : ℕ) (lifetime : Option ℕ) (token : ℕ) (r : Reservation)
+    → let s = at now h.state in let held = live_at s.clock h.held in
+    let done = outer_step setup rules h now (claims tuple user id lifetime token) in
+    held_for user token held ≡ Some r → IsFit setup tuple user (reserved_want r) r.offer s
+    → (done.step ≡ step setup rules h.state now (asks tuple user (allocate id lifetime (reserved_want r ∷ [])))) × (done.holding.held ≡ filter (λ x. not (x.token == token)) held)
 claimed setup rules h now tuple user id lifetime token r found fit =
     let s = at now h.state in
     let held = held_at now h in
     let event = inner setup s held (claims tuple user id lifetime token) in
     let same : step setup rules h.state now event ≡ step setup rules h.state now (asks tuple user (allocate id lifetime (reserved_want r ∷ []))) =
     ap (λ (o : Option Reservation). step setup rules h.state now (asks tuple user (allocate id lifetime (option_map_or reserved_want o (no_want setup tuple s) ∷ [])))) found in
-    let told : (step setup rules h.state now event).output ≡ OneAnswer setup tuple user id lifetime (reserved_want r) r.offer s =
+    let reply : (step setup rules h.state now event).output ≡ OneAnswer setup tuple user id lifetime (reserved_want r) r.offer s =
     ap (λ (x : Step). x.output) same
     ∙ ap (λ (x : Step). x.output) (one_granted setup rules s tuple user id lifetime (reserved_want r) r.offer fit) in
     let opening : is_opening tuple s (step setup rules h.state now event).output ≡ true =
-    and_from (not (has_any tuple s)) (is_success (step setup rules h.state now event).output) (ap not (none_any (is_of tuple) s.relays fit.free)) (ap is_success told) in (
+    and_from (not (has_any tuple s)) (is_success (step setup rules h.state now event).output) (ap not (none_any (is_of tuple) s.relays fit.free)) (ap is_success reply) in (
       same,
-      ap (λ (l : List Reservation). find (is_token token) l) (cond-true (is_opening tuple s (step setup rules h.state now event).output) (filter (λ x. not (is_token token x)) held) held opening) ∙ gone token held,
+      cond-true (is_opening tuple s (step setup rules h.state now event).output) (filter (λ x. not (is_token token x)) held) held opening,
     )
 
-pub not_claimed : (setup : Setup) (rules : Rules) (h : Holding) (now : ℕ) (tuple : FiveTuple) (user id : ℕ) (lifetime : Option ℕ) (token : ℕ) → AllByRecursion (λ r. ¬ ((r.token ≡ token) × (r.user ≡ user))) (held_at now h)
-    → (outer_step setup rules h now (claims tuple user id lifetime token)).holding.state.relays ≡ (at now h.state).relays
-not_claimed setup rules h now tuple user id lifetime token never =
+pub not_claimed : (setup : Setup) (rules : Rules) (h : OuterState) (now : ℕ) (tuple : FiveTuple) (user id : ℕ) (lifetime : Option ℕ) (token : ℕ) → let s = at now h.state in held_for user token (live_at s.clock h.held) ≡ None
+    → (outer_step setup rules h now (claims tuple user id lifetime token)).holding.state.relays ≡ s.relays
+not_claimed setup rules h now tuple user id lifetime token none =
     let s = at now h.state in
-    let none = find_none (is_claim user token) (held_at now h) (each_map (λ r. ¬ ((r.token ≡ token) × (r.user ≡ user))) (λ r. is_claim user token r ≡ false)
-    (λ r no_claim. not_true (is_claim user token r) (λ is. let both = and_parts (r.token == token) (is_users_held user r) is in no_claim (eqb-true r.token token both.0, eqb-true r.user user both.1))) (held_at now h) never) in
     let w = no_want setup tuple s in
     ap (λ (o : Option Reservation). (step setup rules h.state now (asks tuple user (allocate id lifetime (option_map_or reserved_want o w ∷ [])))).state.relays) none
     ∙ serve_cases setup rules tuple user (allocate id lifetime (w ∷ [])) s (λ x. x.state.relays ≡ s.relays) (λ _ _ _. refl) (λ _. refl)
     (λ _ _. ap (λ (x : State). x.relays) (unmet setup tuple user id (s.clock + seconds (granted_for lifetime setup.greatest_lifetime)) w s (inr refl)))
+
+-- ---- What opens no allocation changes no reservation
+
+no_opening : (tuple : FiveTuple) (s : State) (output : Output) → is_success output ≡ false → is_opening tuple s output ≡ false
+no_opening tuple s output isnt = right_false (not (has_any tuple s)) (is_success output) isnt
+
+none_held : (setup : Setup) (s : State) (outer : Outer) (output : Output) (held : List Reservation) → is_success output ≡ false → held_after setup s outer output held ≡ held
+none_held setup s (plain event) output held isnt = refl
+none_held setup s (reserves tuple user id lifetime want next token) output held isnt =
+    cond-false (is_opening tuple s output && can_reserve setup user next held) (reservation s.clock (reserves tuple user id lifetime want next token) next held) held
+    (left_false (is_opening tuple s output) (can_reserve setup user next held) (no_opening tuple s output isnt))
+none_held setup s (claims tuple user id lifetime token) output held isnt = cond-false (is_opening tuple s output) (filter (λ r. not (is_token token r)) held) held (no_opening tuple s output isnt)
+
+no_token : (outer : Outer) (output : Output) (held : List Reservation) → is_success output ≡ false → token_for outer output held ≡ None
+no_token (plain event) output held isnt = refl
+no_token (reserves tuple user id lifetime want next token) output held isnt = cond-false (is_success output) (option_map_or (λ r. Some r.token) (find (is_reserved_by tuple id) held) None) None isnt
+no_token (claims tuple user id lifetime token) output held isnt = refl
+
+pub refused_reserve_nothing : (setup : Setup) (rules : Rules) (h : OuterState) (now : ℕ) (outer : Outer) (tuple : FiveTuple) (code : ℕ) → let done = outer_step setup rules h now outer in
+    done.step.output ≡ answers tuple (refused code) → (done.holding.held ≡ live_at (at now h.state).clock h.held) × (done.token ≡ None)
+refused_reserve_nothing setup rules h now outer tuple code is =
+    let done = outer_step setup rules h now outer in
+    let isnt : is_success done.step.output ≡ false = ap is_success is in
+    (none_held setup (at now h.state) outer done.step.output (held_at now h) isnt, no_token outer done.step.output done.holding.held isnt)
+
+open_already : (tuple : FiveTuple) (s : State) (output : Output) → Has tuple s → is_opening tuple s output ≡ false
+open_already tuple s output has = left_false (not (has_any tuple s)) (is_success output) (ap not (some_any (is_of tuple) s.relays has))
+
+pub claimed_again : (setup : Setup) (rules : Rules) (h : OuterState) (now : ℕ) (tuple : FiveTuple) (user id : ℕ) (lifetime : Option ℕ) (token : ℕ) → let s = at now h.state in Has tuple s
+    → (outer_step setup rules h now (claims tuple user id lifetime token)).holding.held ≡ live_at s.clock h.held
+claimed_again setup rules h now tuple user id lifetime token has =
+    let s = at now h.state in
+    let output = (outer_step setup rules h now (claims tuple user id lifetime token)).step.output in
+    cond-false (is_opening tuple s output) (filter (λ r. not (is_token token r)) (held_at now h)) (held_at now h) (open_already tuple s output has)
+
+again_success : (setup : Setup) (rules : Rules) (tuple : FiveTuple) (user id : ℕ) (lifetime : Option ℕ) (wants : List Want) (s : State) → IsAgain tuple user id s → is_success (serves setup rules tuple user (allocate id lifetime wants) s).output ≡ true
+again_success setup rules tuple user id lifetime wants s again =
+    let r = allocate id lifetime wants in
+    ap (λ (x : Step). is_success x.output) (cond-true (is_again tuple user r s) (keeping s (answers_again setup tuple r s)) (serves_new setup rules tuple user r s) (is_again_of tuple user id s again))
+
+pub repeated : (setup : Setup) (rules : Rules) (h : OuterState) (now : ℕ) (tuple : FiveTuple) (user id : ℕ) (lifetime : Option ℕ) (want : Want) (next : Option Offer) (token : ℕ)
+    → let s = at now h.state in let held = live_at s.clock h.held in
+    let done = outer_step setup rules h now (reserves tuple user id lifetime want next token) in
+    IsAgain tuple user id s → (done.holding.held ≡ held) × ((r : Reservation) → made_by tuple id held ≡ Some r → done.token ≡ Some r.token)
+repeated setup rules h now tuple user id lifetime want next token again =
+    let s = at now h.state in
+    let held = held_at now h in
+    let outer = reserves tuple user id lifetime want next token in
+    let done = outer_step setup rules h now outer in
+    let output = done.step.output in
+    let has = some_map (λ a. (is_owned tuple user a ≡ true) × (a.opened_by ≡ id)) (λ a. is_of tuple a ≡ true) (λ a both. (and_parts (is_of tuple a) (a.user == user) both.0).0) s.relays again in
+    let kept : held_after setup s outer output held ≡ held =
+    cond-false (is_opening tuple s output && can_reserve setup user next held) (reservation s.clock outer next held) held (left_false (is_opening tuple s output) (can_reserve setup user next held) (open_already tuple s output has)) in (
+      kept,
+      λ r found. ap (λ (l : List Reservation). token_for outer output l) kept
+          ∙ (cond-true (is_success output) (option_map_or (λ (x : Reservation). Some x.token) (find (is_reserved_by tuple id) held) None) None (again_success setup rules tuple user id lifetime (pair_want setup user want next held ∷ []) s again)
+          ∙ ap (λ (o : Option Reservation). option_map_or (λ (x : Reservation). Some x.token) o None) found),
+    )

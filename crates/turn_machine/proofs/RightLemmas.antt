@@ -9,7 +9,7 @@ use Rattle.stun_endpoints.specs.declared.endpoints.Endpoint.{Endpoint}
 use Rattle.stun_endpoints.specs.declared.endpoints.FiveTuple.{FiveTuple}
 use Rattle.stun_endpoints.specs.Endpoints.{is_ip, is_endpoint}
 use Rattle.turn_machine.specs.Lists.{SomeOf}
-use Rattle.turn_machine.specs.Relays.{seconds, Permission, Channel, Relay, Setup, Rules, State, is_his, is_live, is_of, is_for, is_at, is_permission, is_permitted, is_channel, is_channel_of}
+use Rattle.turn_machine.specs.Relays.{seconds, Permission, Channel, Relay, Setup, Rules, State, is_owned, is_live, is_of, is_for, is_at, is_permission, is_permitted, is_channel, is_channel_of}
 use Rattle.turn_machine.specs.Events.{Icmp, Request, allocate, unfit_allocate, refresh, permit, bind, unfit, refreshed, done, refused, Event, asks, sends, sends_on, arrives, bounces, ends, ends_user, ticks, Answer, Output, answers, to_peer, to_client, to_client_icmp, nothing}
 use Rattle.turn_machine.specs.Times.{at, refreshed_for, left_of}
 use Rattle.turn_machine.specs.Opening.{allocation_answer}
@@ -118,23 +118,23 @@ let_in hs n a ip came g any = permitted g.backed.since a.tuple a.user a.family n
 asked_as : (tuple : FiveTuple) (a : Relay) (n user : ℕ) (peer : Endpoint) (since : List Happening) → tuple ≡ a.tuple → SomeOf (Permits a.tuple user peer.ip n) since → ArePermitting tuple peer n user since
 asked_as tuple a n user peer since t some = subst (λ (x : FiveTuple). SomeOf (Permits x user peer.ip n) since) (sym t) some
 
-whole_kept : (whole keeps : Bool) → (not whole || keeps) ≡ true → whole ≡ true → keeps ≡ true
+whole_kept : (dont_fragment keeps : Bool) → (not dont_fragment || keeps) ≡ true → dont_fragment ≡ true → keeps ≡ true
 whole_kept true keeps e is = e
 whole_kept false keeps e is = absurd (false≢true is)
 
-sent_right : (setup : Setup) (hs : List Happening) (n : ℕ) (rules : Rules) (tuple : FiveTuple) (peer : Endpoint) (whole : Bool) (bytes : List ℕ) (a : Relay) → AllByRecursion (λ h. h.moment ≤ n) hs → is_for tuple peer.ip.family a ≡ true → IsGood hs n a
-    → IsRight setup hs n rules (sends tuple peer whole bytes) (sent setup rules n peer whole bytes a)
-sent_right setup hs n rules tuple peer whole bytes a came for g =
+sent_right : (setup : Setup) (hs : List Happening) (n : ℕ) (rules : Rules) (tuple : FiveTuple) (peer : Endpoint) (dont_fragment : Bool) (bytes : List ℕ) (a : Relay) → AllByRecursion (λ h. h.moment ≤ n) hs → is_for tuple peer.ip.family a ≡ true → IsGood hs n a
+    → IsRight setup hs n rules (sends tuple peer dont_fragment bytes) (sent setup rules n peer dont_fragment bytes a)
+sent_right setup hs n rules tuple peer dont_fragment bytes a came for g =
     let both = and_parts (is_of tuple a) (a.family == peer.ip.family) for in
     let same = tuple_same tuple a.tuple both.0 in
-    cond_both (is_permitted n peer.ip a && (allows rules peer && (not whole || setup.keeps_whole))) (to_peer a.number peer whole bytes) nothing (IsRight setup hs n rules (sends tuple peer whole bytes))
+    cond_both (is_permitted n peer.ip a && (allows rules peer && (not dont_fragment || setup.supports_dont_fragment))) (to_peer a.number peer dont_fragment bytes) nothing (IsRight setup hs n rules (sends tuple peer dont_fragment bytes))
     (λ so.
-    let one = and_parts (is_permitted n peer.ip a) (allows rules peer && (not whole || setup.keeps_whole)) so in
-    let two = and_parts (allows rules peer) (not whole || setup.keeps_whole) one.1 in
+    let one = and_parts (is_permitted n peer.ip a) (allows rules peer && (not dont_fragment || setup.supports_dont_fragment)) so in
+    let two = and_parts (allows rules peer) (not dont_fragment || setup.supports_dont_fragment) one.1 in
     let l = let_in hs n a peer.ip came g one.0 in (
       tuple,
       two.0,
-      inl (refl, whole_kept whole setup.keeps_whole two.1, warranted hs n tuple a.number peer (ArePermitting tuple peer n) a came g same refl l.family_is (asked_as tuple a n a.user peer g.backed.since same l.asked)),
+      inl (refl, whole_kept dont_fragment setup.supports_dont_fragment two.1, warranted hs n tuple a.number peer (ArePermitting tuple peer n) a came g same refl l.family_is (asked_as tuple a n a.user peer g.backed.since same l.asked)),
     ))
     (λ _. tt)
 
@@ -222,7 +222,7 @@ fulfil_answers setup tuple user (allocate id lifetime wants) state = record { an
 fulfil_answers setup tuple user (unfit_allocate code) state = record { answer = done; is = refl }
 fulfil_answers setup tuple user (refresh family lifetime) state =
     let granted = refreshed_for lifetime setup.greatest_lifetime in
-    cond_both (granted == 0) (closing (λ a. is_his tuple user a && is_wanted family a) (answers tuple (refreshed granted)) state)
+    cond_both (granted == 0) (closing (λ a. is_owned tuple user a && is_wanted family a) (answers tuple (refreshed granted)) state)
     (keeping (changed tuple user (lasting family (state.clock + seconds granted)) state) (answers tuple (refreshed granted))) (λ s. Answers tuple s.output)
     (λ _. record { answer = refreshed granted; is = refl }) (λ _. record { answer = refreshed granted; is = refl })
 fulfil_answers setup tuple user (permit peers) state = record { answer = done; is = refl }
@@ -250,11 +250,11 @@ event_right setup earlier now rules (asks tuple user request) =
     let n = max (run setup earlier).clock now in
     let a = serve_answers setup rules tuple user request (at now (run setup earlier)) in
     subst (IsRight setup hs n rules (asks tuple user request)) (sym a.is) (user, request, refl)
-event_right setup earlier now rules (sends tuple peer whole bytes) =
+event_right setup earlier now rules (sends tuple peer dont_fragment bytes) =
     let hs = history setup earlier in
     let n = max (run setup earlier).clock now in
-    found (IsGood hs n) (is_for tuple peer.ip.family) (λ o. IsRight setup hs n rules (sends tuple peer whole bytes) (option_map_or (sent setup rules n peer whole bytes) o nothing)) tt (at now (run setup earlier)).relays
-    (λ a for g. sent_right setup hs n rules tuple peer whole bytes a (came_by setup earlier now) for g) (all_good setup earlier now)
+    found (IsGood hs n) (is_for tuple peer.ip.family) (λ o. IsRight setup hs n rules (sends tuple peer dont_fragment bytes) (option_map_or (sent setup rules n peer dont_fragment bytes) o nothing)) tt (at now (run setup earlier)).relays
+    (λ a for g. sent_right setup hs n rules tuple peer dont_fragment bytes a (came_by setup earlier now) for g) (all_good setup earlier now)
 event_right setup earlier now rules (sends_on tuple number bytes) =
     let hs = history setup earlier in
     let n = max (run setup earlier).clock now in

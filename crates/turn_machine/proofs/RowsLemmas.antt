@@ -9,7 +9,7 @@ use Rattle.stun_endpoints.specs.Endpoints.{is_endpoint}
 use Rattle.turn_machine.specs.Relays.{Channel, Setup, Rules, State, has_room, has_quota}
 use Rattle.turn_machine.specs.Events.{Want, permit, bind}
 use Rattle.turn_machine.specs.Opening.{has_of, can_open}
-use Rattle.turn_machine.specs.Rows.{row, has_any, has_anothers, own_rows, lacks_permissions, have_families, permit_rows, clashes, is_bound_otherwise, is_channel_number, lacks_channels, bind_rows, fault}
+use Rattle.turn_machine.specs.Rows.{row, has_any, has_of_another, own_rows, lacks_permissions, have_families, permit_rows, clashes, is_bound_otherwise, is_channel_number, lacks_channels, bind_rows, fault}
 use Rattle.turn_machine.specs.Granting.{IsClash}
 use Rattle.turn_machine.proofs.AddressesLemmas.{endpoint_same, endpoint_is_itself}
 
@@ -46,18 +46,18 @@ can_parts setup tuple user want state can =
 
 pub record OwnNone (tuple : FiveTuple) (user : ℕ) (state : State) (others : Option ℕ) : Type 0 where
   pub has : has_any tuple state ≡ true
-  pub his : has_anothers tuple user state ≡ false
+  pub his : has_of_another tuple user state ≡ false
   pub rest : others ≡ None
 
 pub own_none : (tuple : FiveTuple) (user : ℕ) (state : State) (others : Option ℕ) → own_rows tuple user state others ≡ None → OwnNone tuple user state others
 own_none tuple user state others e =
-    let one = row_none (not (has_any tuple state)) 437 (row (has_anothers tuple user state) 441 others) e in
-    let two = row_none (has_anothers tuple user state) 441 others one.1 in
+    let one = row_none (not (has_any tuple state)) 437 (row (has_of_another tuple user state) 441 others) e in
+    let two = row_none (has_of_another tuple user state) 441 others one.1 in
     record { has = not_no (has_any tuple state) one.0; his = two.0; rest = two.1 }
 
 pub record PermitNone (setup : Setup) (rules : Rules) (tuple : FiveTuple) (user : ℕ) (peers : List Endpoint) (state : State) : Type 0 where
   pub has : has_any tuple state ≡ true
-  pub his : has_anothers tuple user state ≡ false
+  pub his : has_of_another tuple user state ≡ false
   pub families : have_families tuple peers state ≡ true
   pub allowed : list_all (λ peer. rules.allows_ip peer.ip) peers ≡ true
   pub room : list_any (lacks_permissions setup state.clock tuple user peers) state.relays ≡ false
@@ -74,7 +74,7 @@ permit_none setup rules tuple user peers state e =
 
 pub record BindNone (setup : Setup) (rules : Rules) (tuple : FiveTuple) (user number : ℕ) (peer : Endpoint) (state : State) : Type 0 where
   pub has : has_any tuple state ≡ true
-  pub his : has_anothers tuple user state ≡ false
+  pub his : has_of_another tuple user state ≡ false
   pub number_is : is_channel_number setup number ≡ true
   pub free : list_any (is_bound_otherwise state.clock tuple number peer) state.relays ≡ false
   pub family : has_of tuple peer.ip.family state ≡ true

@@ -20,7 +20,7 @@ use Rattle.turn_machine.proofs.NumbersLemmas.{kept_over}
 
 pub unchanged : (setup : Setup) (rules : Rules) (state : State) (now : ℕ) (event : Event) → is_datagram event ≡ true → (step setup rules state now event).state ≡ at now state
 unchanged setup rules state now (asks tuple user request) is = absurd (false≢true is)
-unchanged setup rules state now (sends tuple peer whole bytes) is = refl
+unchanged setup rules state now (sends tuple peer dont_fragment bytes) is = refl
 unchanged setup rules state now (sends_on tuple number bytes) is = refl
 unchanged setup rules state now (arrives number peer bytes) is = refl
 unchanged setup rules state now (bounces number peer icmp) is = refl
@@ -33,9 +33,9 @@ none_of f which test all less none = ap (λ (o : Option Relay). option_map_or f 
 
 pub quiet : (setup : Setup) (rules : Rules) (state : State) (now : ℕ) (event : Event) → is_datagram event ≡ true → IsQuiet setup rules state now event
 quiet setup rules state now (asks tuple user request) is none = absurd (false≢true is)
-quiet setup rules state now (sends tuple peer whole bytes) is none =
+quiet setup rules state now (sends tuple peer dont_fragment bytes) is none =
     let s = at now state in
-    none_of (sent setup rules s.clock peer whole bytes) (is_for tuple peer.ip.family) (is_of tuple) s.relays (λ a off. left_false (is_of tuple a) (a.family == peer.ip.family) off) none
+    none_of (sent setup rules s.clock peer dont_fragment bytes) (is_for tuple peer.ip.family) (is_of tuple) s.relays (λ a off. left_false (is_of tuple a) (a.family == peer.ip.family) off) none
 quiet setup rules state now (sends_on tuple number bytes) is none =
     let s = at now state in
     none_of (sent_on rules s.clock number bytes) (has_channel s.clock tuple number) (is_of tuple) s.relays (λ a off. left_false (is_of tuple a) (list_any (is_channel s.clock number) a.channels) off) none
@@ -109,7 +109,7 @@ nothing_more n xs = let e = count_append (λ m. m == n) xs [] in omega (arith, e
 
 stranger_closes : (setup : Setup) (rules : Rules) (state : State) (now n : ℕ) (event : Event) → is_datagram event ≡ true → times n (step setup rules state now event).closes ≡ times n (over_at now state)
 stranger_closes setup rules state now n (asks tuple user request) is = absurd (false≢true is)
-stranger_closes setup rules state now n (sends tuple peer whole bytes) is = nothing_more n (over_at now state)
+stranger_closes setup rules state now n (sends tuple peer dont_fragment bytes) is = nothing_more n (over_at now state)
 stranger_closes setup rules state now n (sends_on tuple number bytes) is = nothing_more n (over_at now state)
 stranger_closes setup rules state now n (arrives number peer bytes) is = nothing_more n (over_at now state)
 stranger_closes setup rules state now n (bounces number peer icmp) is = nothing_more n (over_at now state)

@@ -7,7 +7,7 @@ use Rattle.stun_endpoints.specs.declared.endpoints.Ip.{Ip}
 use Rattle.stun_endpoints.specs.declared.endpoints.Endpoint.{Endpoint}
 use Rattle.stun_endpoints.specs.declared.endpoints.FiveTuple.{FiveTuple}
 use Rattle.stun_endpoints.specs.Endpoints.{is_ip, is_endpoint}
-use Rattle.turn_machine.specs.Relays.{seconds, Permission, Channel, Relay, Setup, State, is_live, is_of, is_users, is_his, is_permission, is_channel, is_channel_of}
+use Rattle.turn_machine.specs.Relays.{seconds, Permission, Channel, Relay, Setup, State, is_live, is_of, is_users, is_owned, is_permission, is_channel, is_channel_of}
 use Rattle.turn_machine.specs.Rows.{clashes, is_bound_otherwise, is_other_channel, with_channel, is_other_permission, with_permission, with_permissions, peers_of}
 use Rattle.turn_machine.specs.Steps.{is_wanted, lasting, permitting, binding}
 use Rattle.turn_machine.specs.Runs.{Timed, run}
@@ -95,7 +95,7 @@ no_clash : (of any : Bool) → (of && any) ≡ false → of ≡ true → any ≡
 no_clash true any none is = none
 no_clash false any none is = absurd (false≢true is)
 
-bound_unique : (now number : ℕ) (peer : Endpoint) (tuple : FiveTuple) (user : ℕ) (a : Relay) → is_his tuple user a ≡ true → is_bound_otherwise now tuple number peer a ≡ false → IsUnique a → IsUnique (binding now number peer a)
+bound_unique : (now number : ℕ) (peer : Endpoint) (tuple : FiveTuple) (user : ℕ) (a : Relay) → is_owned tuple user a ≡ true → is_bound_otherwise now tuple number peer a ≡ false → IsUnique a → IsUnique (binding now number peer a)
 bound_unique now number peer tuple user a his free unique =
     let of = (and_parts (is_of tuple a) (is_users user a) his).0 in
     let clash = any_none (clashes now number peer) a.channels (no_clash (is_of tuple a) (list_any (clashes now number peer) a.channels) free of) in

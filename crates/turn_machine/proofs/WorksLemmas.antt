@@ -8,9 +8,9 @@ use Rattle.stun_endpoints.specs.declared.endpoints.Endpoint.{Endpoint}
 use Rattle.stun_endpoints.specs.declared.endpoints.FiveTuple.{FiveTuple}
 use Rattle.stun_endpoints.specs.Endpoints.{is_ip, is_endpoint, is_tuple}
 use Rattle.turn_machine.specs.Lists.{SomeOf}
-use Rattle.turn_machine.specs.Relays.{seconds, Channel, Relay, Setup, State, is_of, is_for, is_users, is_his, is_channel, is_channel_of}
+use Rattle.turn_machine.specs.Relays.{seconds, Channel, Relay, Setup, State, is_of, is_for, is_users, is_owned, is_channel, is_channel_of}
 use Rattle.turn_machine.specs.Events.{Request, allocate, unfit_allocate, refresh, permit, bind, unfit, asks, done, Output, answers}
-use Rattle.turn_machine.specs.Rows.{is_anothers, has_anothers, peers_of, clashes, is_bound_otherwise, is_other_channel, with_channel}
+use Rattle.turn_machine.specs.Rows.{is_of_another, has_of_another, peers_of, clashes, is_bound_otherwise, is_other_channel, with_channel}
 use Rattle.turn_machine.specs.Steps.{Step, changed, permitting, binding, is_again, answers_again}
 use Rattle.turn_machine.specs.Runs.{Happening}
 use Rattle.turn_machine.specs.Granting.{relay_of}
@@ -20,20 +20,20 @@ use Rattle.turn_machine.proofs.ListsLemmas.{each_map, each_filter, any_none, fin
 use Rattle.turn_machine.proofs.Backed.{not_refreshed}
 use Rattle.turn_machine.proofs.KeptLemmas.{his_same, binding_same, bound_after}
 use Rattle.turn_machine.proofs.GrantedLemmas.{find_mapped, found_is, not_true, exactly_300}
-use Rattle.turn_machine.proofs.HoldingLemmas.{HasChannel, Held, Grants_nothing, end_same, only_older, find_kept, all_stay, among, same_number, same_peer}
+use Rattle.turn_machine.proofs.HoldingLemmas.{HasChannel, OuterStep, Grants_nothing, end_same, only_older, find_kept, all_stay, among, same_number, same_peer}
 
 -- ---- A request of the client
 
 abbrev pub After : (tuple : FiveTuple) (user number first : ℕ) (dest : Endpoint) (n : ℕ) (h : Happening) (since : List Happening) → Step → Type 0
-After tuple user number first dest n h since s = h.output ≡ s.output → s.state.clock < end_of tuple user dest.ip.family number first (h ∷ since) → Held tuple user number first dest n (h ∷ since) s.state
+After tuple user number first dest n h since s = h.output ≡ s.output → s.state.clock < end_of tuple user dest.ip.family number first (h ∷ since) → OuterStep tuple user number first dest n (h ∷ since) s.state
 
 -- what is answered other than with `done`, and isn't refreshed, grants nothing
 pub idle : (tuple other : FiveTuple) (user number owner : ℕ) (dest : Endpoint) (n : ℕ) (h : Happening) (request : Request) (output : Output) → h.event ≡ asks other owner request → h.output ≡ output → refreshed_in output ≡ None → (output ≡ answers tuple done → ⊥) → Grants_nothing tuple user number dest n h
-idle tuple other user number owner dest n h request output asked told quiet never = record {
+idle tuple other user number owner dest n h request output asked reply quiet never = record {
   calm = ap (is_ended user number) asked;
-  lifetime = not_refreshed tuple user dest.ip.family h (ap refreshed_in told ∙ quiet);
-  permits = λ p. never (sym told ∙ p.succeeded);
-  binds = λ channel p. never (sym told ∙ p.succeeded);
+  lifetime = not_refreshed tuple user dest.ip.family h (ap refreshed_in reply ∙ quiet);
+  permits = λ p. never (sym reply ∙ p.succeeded);
+  binds = λ channel p. never (sym reply ∙ p.succeeded);
 }
 
 pub again_idle : (setup : Setup) (tuple other : FiveTuple) (user : ℕ) (request : Request) (state : State) → is_again tuple user request state ≡ true → (refreshed_in (answers_again setup tuple request state) ≡ None) × (answers_again setup tuple request state ≡ answers other done → ⊥)
@@ -60,26 +60,26 @@ mine true false none is = absurd (false≢true (sym none))
 mine false his none is = absurd (false≢true is)
 
 -- the request is its owner's, if it has no fault
-pub is_mine : (tuple : FiveTuple) (owner family : ℕ) (state : State) (a : Relay) → relay_of tuple family state ≡ Some a → has_anothers tuple owner state ≡ false → is_his tuple owner a ≡ true
+pub is_mine : (tuple : FiveTuple) (owner family : ℕ) (state : State) (a : Relay) → relay_of tuple family state ≡ Some a → has_of_another tuple owner state ≡ false → is_owned tuple owner a ≡ true
 is_mine tuple owner family state a is none =
     let of = (and_parts (is_of tuple a) (a.family == family) (has_found tuple family state a is)).0 in
-    and_from (is_of tuple a) (is_users owner a) of (mine (is_of tuple a) (is_users owner a) (found_is (λ b. is_anothers tuple owner b ≡ false) (is_for tuple family) state.relays a is (any_none (is_anothers tuple owner) state.relays none)) of)
+    and_from (is_of tuple a) (is_users owner a) of (mine (is_of tuple a) (is_users owner a) (found_is (λ b. is_of_another tuple owner b ≡ false) (is_for tuple family) state.relays a is (any_none (is_of_another tuple owner) state.relays none)) of)
 
 pub family_of : (tuple : FiveTuple) (family : ℕ) (state : State) (a : Relay) → relay_of tuple family state ≡ Some a → a.family ≡ family
 family_of tuple family state a is = eqb-true a.family family (and_parts (is_of tuple a) (a.family == family) (has_found tuple family state a is)).1
 
-pub found_changed : (tuple : FiveTuple) (owner family : ℕ) (change : Relay → Relay) (state : State) (a : Relay) → ((b : Relay) → (change b).tuple ≡ b.tuple) → ((b : Relay) → (change b).family ≡ b.family) → is_his tuple owner a ≡ true
+pub found_changed : (tuple : FiveTuple) (owner family : ℕ) (change : Relay → Relay) (state : State) (a : Relay) → ((b : Relay) → (change b).tuple ≡ b.tuple) → ((b : Relay) → (change b).family ≡ b.family) → is_owned tuple owner a ≡ true
     → relay_of tuple family state ≡ Some a → relay_of tuple family (changed tuple owner change state) ≡ Some (change a)
 found_changed tuple owner family change state a tuples families his is =
-    find_mapped (is_for tuple family) (λ b. cond (is_his tuple owner b) (change b) b)
-    (λ b. ap (λ (t : FiveTuple). is_tuple tuple t && ((cond (is_his tuple owner b) (change b) b).family == family)) (his_same (λ c. c.tuple) tuple owner change tuples b)
+    find_mapped (is_for tuple family) (λ b. cond (is_owned tuple owner b) (change b) b)
+    (λ b. ap (λ (t : FiveTuple). is_tuple tuple t && ((cond (is_owned tuple owner b) (change b) b).family == family)) (his_same (λ c. c.tuple) tuple owner change tuples b)
     ∙ ap (λ (f : ℕ). is_of tuple b && (f == family)) (his_same (λ c. c.family) tuple owner change families b)) state.relays a is
-    ∙ ap (λ (b : Relay). Some b) (cond-true (is_his tuple owner a) (change a) a his)
+    ∙ ap (λ (b : Relay). Some b) (cond-true (is_owned tuple owner a) (change a) a his)
 
 -- CreatePermission
 pub permit_on : (tuple : FiveTuple) (user number first : ℕ) (dest : Endpoint) (n : ℕ) (h : Happening) (since : List Happening) (owner : ℕ) (peers : List Endpoint) (state : State) → state.clock ≤ n → h.moment ≡ state.clock → h.event ≡ asks tuple owner (permit peers) → h.output ≡ answers tuple done
-    → has_anothers tuple owner state ≡ false → Held tuple user number first dest n since state → Held tuple user number first dest n (h ∷ since) (changed tuple owner (permitting state.clock peers) state)
-permit_on tuple user number first dest n h since owner peers state le moment asked told none held =
+    → has_of_another tuple owner state ≡ false → OuterStep tuple user number first dest n since state → OuterStep tuple user number first dest n (h ∷ since) (changed tuple owner (permitting state.clock peers) state)
+permit_on tuple user number first dest n h since owner peers state le moment asked reply none held =
     let c = state.clock in
     let family = dest.ip.family in
     let a = held.a in
@@ -91,7 +91,7 @@ permit_on tuple user number first dest n h since owner peers state le moment ask
       found = found_changed tuple owner family (permitting c peers) state a (λ _. refl) (λ _. refl) (is_mine tuple owner family state a held.found none) held.found;
       user_is = held.user_is;
       number_is = held.number_is;
-      ends = subst (λ (m : ℕ). m ≤ a.until) (sym (end_same tuple user family number first h since (ap (is_ended user number) asked) (not_refreshed tuple user family h (ap refreshed_in told)))) held.ends;
+      ends = subst (λ (m : ℕ). m ≤ a.until) (sym (end_same tuple user family number first h since (ap (is_ended user number) asked) (not_refreshed tuple user family h (ap refreshed_in reply)))) held.ends;
       permits = λ some. elim some [
         | inl p ↦
             let e : asks tuple owner (permit peers) ≡ asks tuple user p.request = sym asked ∙ p.asked in
@@ -165,8 +165,8 @@ no_clash true any none is = none
 no_clash false any none is = absurd (false≢true is)
 
 pub bind_on : (tuple : FiveTuple) (user number first : ℕ) (dest : Endpoint) (n : ℕ) (h : Happening) (since : List Happening) (owner channel : ℕ) (peer : Endpoint) (state : State) → state.clock ≤ n → h.moment ≡ state.clock → h.event ≡ asks tuple owner (bind channel peer) → h.output ≡ answers tuple done
-    → has_anothers tuple owner state ≡ false → list_any (is_bound_otherwise state.clock tuple channel peer) state.relays ≡ false → Held tuple user number first dest n since state → Held tuple user number first dest n (h ∷ since) (changed tuple owner (binding state.clock channel peer) state)
-bind_on tuple user number first dest n h since owner channel peer state le moment asked told none free held =
+    → has_of_another tuple owner state ≡ false → list_any (is_bound_otherwise state.clock tuple channel peer) state.relays ≡ false → OuterStep tuple user number first dest n since state → OuterStep tuple user number first dest n (h ∷ since) (changed tuple owner (binding state.clock channel peer) state)
+bind_on tuple user number first dest n h since owner channel peer state le moment asked reply none free held =
     let c = state.clock in
     let family = dest.ip.family in
     let a = held.a in
@@ -176,7 +176,7 @@ bind_on tuple user number first dest n h since owner channel peer state le momen
     let clash : AllByRecursion (λ d. clashes c channel peer d ≡ false) a.channels = any_none (clashes c channel peer) a.channels
     (no_clash (is_of tuple a) (list_any (clashes c channel peer) a.channels) (found_is (λ b. is_bound_otherwise c tuple channel peer b ≡ false) (is_for tuple family) state.relays a held.found (any_none (is_bound_otherwise c tuple channel peer) state.relays free)) of) in
     let found = found_changed tuple owner family (binding c channel peer) state a (binding_same (λ b. b.tuple) c channel peer (λ _. refl)) (binding_same (λ b. b.family) c channel peer (λ _. refl)) his held.found in
-    let ends = subst (λ (m : ℕ). m ≤ a.until) (sym (end_same tuple user family number first h since (ap (is_ended user number) asked) (not_refreshed tuple user family h (ap refreshed_in told)))) held.ends in
+    let ends = subst (λ (m : ℕ). m ≤ a.until) (sym (end_same tuple user family number first h since (ap (is_ended user number) asked) (not_refreshed tuple user family h (ap refreshed_in reply)))) held.ends in
     let soon : SomeOf (Permits tuple user dest.ip n) (h ∷ since) → n < c + seconds 300 = λ some. elim some [
       | inl p ↦ subst (λ (m : ℕ). n < m + seconds 300) moment p.lasts
       | inr more ↦ held.soon more
@@ -189,7 +189,7 @@ bind_on tuple user number first dest n h since owner channel peer state le momen
     let e : asks tuple owner (bind channel peer) ≡ asks tuple user p.request = sym asked ∙ p.asked in
     let r : p.request ≡ bind channel peer = cc in
     subst (λ (x : Request). names dest.ip x ≡ true) r p.named in
-    cond_both (peer.ip.family == a.family) (bound_after c channel peer a) a (λ (b : Relay). relay_of tuple family (changed tuple owner (binding c channel peer) state) ≡ Some b → Held tuple user number first dest n (h ∷ since) (changed tuple owner (binding c channel peer) state))
+    cond_both (peer.ip.family == a.family) (bound_after c channel peer a) a (λ (b : Relay). relay_of tuple family (changed tuple owner (binding c channel peer) state) ≡ Some b → OuterStep tuple user number first dest n (h ∷ since) (changed tuple owner (binding c channel peer) state))
     (λ it is. record {
       a = bound_after c channel peer a;
       found = is;

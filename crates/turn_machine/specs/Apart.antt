@@ -27,7 +27,7 @@ has_asked tuple user earlier = list_any (λ h. is_asked_as tuple user h.event) e
 
 abbrev pub is_own : FiveTuple → (earlier : List Happening) → Event → Bool
 is_own tuple earlier (asks other user request) = is_tuple tuple other
-is_own tuple earlier (sends other peer whole bytes) = is_tuple tuple other
+is_own tuple earlier (sends other peer dont_fragment bytes) = is_tuple tuple other
 is_own tuple earlier (sends_on other channel bytes) = is_tuple tuple other
 is_own tuple earlier (arrives number peer bytes) = has_got tuple number earlier
 is_own tuple earlier (bounces number peer icmp) = has_got tuple number earlier
@@ -45,14 +45,14 @@ pub record Own : Type 0 where
   pub moment : ℕ
   pub rules : Rules
   pub event : Event
-  pub told : Option Output
+  pub reply : Option Output
 
 abbrev pub own_of : Happening → Own
 own_of h = record {
   moment = h.moment;
   rules = h.rules;
   event = h.event;
-  told = if is_allocate h.event then Some h.output else None;
+  reply = if is_allocate h.event then Some h.output else None;
 }
 
 abbrev pub own : FiveTuple → List Happening → List Own
@@ -64,7 +64,7 @@ own tuple (h ∷ earlier) =
 
 abbrev pub seen : FiveTuple → Output → Output
 seen tuple (answers other answer) = answers other answer
-seen tuple (to_peer number peer whole bytes) = to_peer number peer whole bytes
+seen tuple (to_peer number peer dont_fragment bytes) = to_peer number peer dont_fragment bytes
 seen tuple (to_client other peer bytes) =
     if is_tuple tuple other then to_client other peer bytes else nothing
 seen tuple (to_client_on other channel bytes) =
@@ -92,5 +92,5 @@ comes_to tuple (answers other answer) = is_tuple tuple other
 comes_to tuple (to_client other peer bytes) = is_tuple tuple other
 comes_to tuple (to_client_on other channel bytes) = is_tuple tuple other
 comes_to tuple (to_client_icmp other peer icmp) = is_tuple tuple other
-comes_to tuple (to_peer number peer whole bytes) = false
+comes_to tuple (to_peer number peer dont_fragment bytes) = false
 comes_to tuple nothing = false

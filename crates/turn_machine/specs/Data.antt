@@ -13,10 +13,10 @@ abbrev pub allows : Rules → Endpoint → Bool
 allows rules peer = rules.allows_ip peer.ip && rules.allows_port peer
 
 -- a Send indication: there is a permission (11.2)
-abbrev pub sent : Setup → Rules → ℕ → Endpoint → (whole : Bool) → List ℕ → Relay → Output
-sent setup rules now peer whole bytes a =
-    if is_permitted now peer.ip a && (allows rules peer && (not whole || setup.keeps_whole))
-    then to_peer a.number peer whole bytes else nothing
+abbrev pub sent : Setup → Rules → ℕ → Endpoint → (dont_fragment : Bool) → List ℕ → Relay → Output
+sent setup rules now peer dont_fragment bytes a =
+    if is_permitted now peer.ip a && (allows rules peer && (not dont_fragment || setup.supports_dont_fragment))
+    then to_peer a.number peer dont_fragment bytes else nothing
 
 -- a ChannelData message: the channel is bound. Section 12.6 asks for no permission
 abbrev pub sent_by : Rules → List ℕ → Relay → Channel → Output
@@ -55,8 +55,8 @@ bounced setup rules now peer icmp a =
     then to_client_icmp a.tuple peer icmp else nothing
 
 abbrev pub relayed : Setup → Rules → State → Event → Output
-relayed setup rules state (sends tuple peer whole bytes) =
-    option_map_or (sent setup rules state.clock peer whole bytes)
+relayed setup rules state (sends tuple peer dont_fragment bytes) =
+    option_map_or (sent setup rules state.clock peer dont_fragment bytes)
     (find (is_for tuple peer.ip.family) state.relays) nothing
 relayed setup rules state (sends_on tuple number bytes) =
     option_map_or (sent_on rules state.clock number bytes)

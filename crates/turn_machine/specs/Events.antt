@@ -1,6 +1,6 @@
 -- What comes to a TURN server, and what it does. Bytes have been read: which event a datagram is
 -- was decided before.
-use Rattle.std.specs.Prelude.{ℕ, Bool, List, Option}
+use Rattle.std.specs.Prelude.{ℕ, Bool, List, length, Option, nat_lt, if◌then◌else◌}
 use Rattle.stun_endpoints.specs.declared.endpoints.Endpoint.{Endpoint}
 use Rattle.stun_endpoints.specs.declared.endpoints.FiveTuple.{FiveTuple}
 
@@ -25,6 +25,14 @@ pub data Request : Type 0 where
   bind : (number : ℕ) → Endpoint → Request
   unfit : (code : ℕ) → Request
 
+-- a CreatePermission request that names these peers: the server reads 64 at most. More are more than it has
+-- room for: 508, by the bytes alone (10.2)
+abbrev pub most_peers : ℕ
+most_peers = 64
+
+abbrev pub permit_request : List Endpoint → Request
+permit_request peers = if nat_lt most_peers (length peers) then unfit 508 else permit peers
+
 -- type, code and error data (sections 11.5 and 18.13)
 pub record Icmp : Type 0 where
   pub type_number : ℕ
@@ -37,7 +45,7 @@ pub record Icmp : Type 0 where
 -- time
 pub data Event : Type 0 where
   asks : FiveTuple → (user : ℕ) → Request → Event
-  sends : FiveTuple → Endpoint → (whole : Bool) → List ℕ → Event
+  sends : FiveTuple → Endpoint → (dont_fragment : Bool) → List ℕ → Event
   sends_on : FiveTuple → (channel : ℕ) → List ℕ → Event
   arrives : (number : ℕ) → Endpoint → List ℕ → Event
   bounces : (number : ℕ) → Endpoint → Icmp → Event
@@ -67,7 +75,7 @@ pub data Answer : Type 0 where
 -- indication with ICMP to a client; or nothing
 pub data Output : Type 0 where
   answers : FiveTuple → Answer → Output
-  to_peer : (number : ℕ) → Endpoint → (whole : Bool) → List ℕ → Output
+  to_peer : (number : ℕ) → Endpoint → (dont_fragment : Bool) → List ℕ → Output
   to_client : FiveTuple → Endpoint → List ℕ → Output
   to_client_on : FiveTuple → (channel : ℕ) → List ℕ → Output
   to_client_icmp : FiveTuple → Endpoint → Icmp → Output

@@ -4,12 +4,12 @@ use Rattle.stun_endpoints.specs.declared.endpoints.FiveTuple.{FiveTuple}
 use Rattle.turn_machine.specs.Relays.{seconds}
 use Rattle.turn_machine.specs.Events.{allocate, refresh, permit, bind, Event, asks, ends, ends_user, ticks}
 use Rattle.turn_machine.specs.Runs.{Timed}
-use Rattle.turn_machine.specs.Examples.{address, client, want_4, alice, bob}
-use Rattle.turn_machine.specs.Edges.{rules_3}
+use Rattle.turn_machine.specs.Examples.{address, client, ipv4_want, alice, bob}
+use Rattle.turn_machine.specs.Edges.{peer_rules}
 use Rattle.turn_machine.specs.Flows.{Flow}
 
 abbrev pub come : ℕ → Event → Timed
-come n event = record { now = seconds n; rules = rules_3; event = event }
+come n event = record { now = seconds n; rules = peer_rules; event = event }
 
 pub record FlowCase : Type 0 where
   pub earlier : List Timed
@@ -29,10 +29,10 @@ to number peer until =
 abbrev pub two_clients : List Timed
 two_clients =
     come 5 (asks (client 12) bob (bind 0x4000 (address 23)))
-    ∷ come 4 (asks (client 12) bob (allocate 1 None (want_4 32 ∷ [])))
+    ∷ come 4 (asks (client 12) bob (allocate 1 None (ipv4_want 32 ∷ [])))
     ∷ come 3 (asks (client 11) alice (bind 0x4001 (address 22)))
     ∷ come 2 (asks (client 11) alice (bind 0x4000 (address 21)))
-    ∷ come 1 (asks (client 11) alice (allocate 1 (Some 1000) (want_4 31 ∷ [])))
+    ∷ come 1 (asks (client 11) alice (allocate 1 (Some 1000) (ipv4_want 31 ∷ [])))
     ∷ []
 
 abbrev pub permitted_again : List Timed

@@ -1,12 +1,13 @@
 -- What is fit to be granted, and what is granted (RFC 8656, sections 7.2, 8.2, 9, 10.2 and 12.2),
 -- in terms of the request and of the state when it comes.
-use Rattle.std.specs.Prelude.{Bool, ◌&&◌, ◌==◌, ◌≡◌, ◌≢◌, ℕ, ◌+◌, ◌<◌, ◌≤◌, ◌⊎◌, true, false, List, [], ◌∷◌, length, count_by, find, Option, None, Some, nat_lt}
-use Rattle.std.specs.List.{AllByRecursion}
+use Rattle.std.specs.Prelude.{Bool, not, ◌&&◌, if◌then◌else◌, map, filter, ◌==◌, ◌≡◌, ◌≢◌, ℕ, ◌+◌, ◌<◌, ◌≤◌, ◌⊎◌, true, false, List, [], ◌∷◌, length, count_by, find, Option, None, Some, nat_lt}
+use Rattle.std.specs.List.{AllByRecursion, list_any}
+use Rattle.stun_endpoints.specs.declared.endpoints.Ip.{Ip}
 use Rattle.stun_endpoints.specs.declared.endpoints.Endpoint.{Endpoint}
 use Rattle.stun_endpoints.specs.declared.endpoints.FiveTuple.{FiveTuple}
-use Rattle.stun_endpoints.specs.Endpoints.{is_tuple}
+use Rattle.stun_endpoints.specs.Endpoints.{is_ip, is_tuple}
 use Rattle.turn_machine.specs.Lists.{SomeOf}
-use Rattle.turn_machine.specs.Relays.{seconds, Channel, Relay, Setup, Rules, State, is_permitted, is_channel}
+use Rattle.turn_machine.specs.Relays.{seconds, Channel, Relay, Setup, Rules, State}
 use Rattle.turn_machine.specs.Events.{Offer, Want, Given, Missing, allocated, refreshed, done, answers}
 use Rattle.turn_machine.specs.Steps.{Step}
 use Rattle.turn_machine.specs.Rows.{permissions_after, with_channel}
@@ -108,7 +109,7 @@ pub record CanBind (setup : Setup) (rules : Rules) (tuple : FiveTuple) (user num
   pub greatest : number ≤ setup.last_channel
   pub port : rules.allows_port peer ≡ true
   pub free : IsFreeChannel tuple number peer state
-  pub room : AllByRecursion (λ a. is_clients_by tuple user a ≡ true
+  pub room : AllByRecursion (λ a. is_clients_by tuple user a ≡ true → a.family ≡ peer.ip.family
       → length (with_channel state.clock number peer a.channels) ≤ setup.most_channels) state.relays
 
 -- ---- What the client has afterwards
@@ -122,12 +123,20 @@ abbrev pub OthersStay : FiveTuple → (old new : State) → Type 0
 OthersStay tuple old new = (other : FiveTuple) (family : ℕ) → other ≢ tuple
     → relay_of other family new ≡ relay_of other family old
 
+-- whether a permission of an IP address is live at a moment
+abbrev pub permits_at : (now : ℕ) → Ip → Relay → Bool
+permits_at now ip a = list_any (λ p. is_ip ip p.ip && nat_lt now p.until) a.permissions
+
+-- the channel with a number, if it is live at a moment
+abbrev pub channel_at : (now number : ℕ) → Relay → Option Channel
+channel_at now number a = find (λ c. (c.number == number) && nat_lt now c.until) a.channels
+
 -- a permission from a moment on, for 300 seconds exactly
 pub record IsPermittedFrom (tuple : FiveTuple) (peer : Endpoint) (now : ℕ) (state : State) : Type 0
   where
     pub relay : Relay
     pub is : relay_of tuple peer.ip.family state ≡ Some relay
-    pub lasts : (m : ℕ) → now ≤ m → is_permitted m peer.ip relay ≡ nat_lt m (now + seconds 300)
+    pub lasts : (m : ℕ) → now ≤ m → permits_at m peer.ip relay ≡ nat_lt m (now + seconds 300)
 
 -- a channel, for 600 seconds exactly
 pub record IsBoundFrom (tuple : FiveTuple) (number : ℕ) (peer : Endpoint) (now : ℕ) (state : State)
@@ -135,9 +144,9 @@ pub record IsBoundFrom (tuple : FiveTuple) (number : ℕ) (peer : Endpoint) (now
   pub relay : Relay
   pub is : relay_of tuple peer.ip.family state ≡ Some relay
   pub lasts : (m : ℕ) → now ≤ m → m < now + seconds 600
-      → find (is_channel m number) relay.channels
+      → channel_at m number relay
       ≡ Some (record { number = number; peer = peer; until = now + seconds 600 })
-  pub ends : (m : ℕ) → now + seconds 600 ≤ m → find (is_channel m number) relay.channels ≡ None
+  pub ends : (m : ℕ) → now + seconds 600 ≤ m → channel_at m number relay ≡ None
 
 -- a Refresh request is for this family, or for all
 abbrev pub IsFor : (wanted : Option ℕ) → (family : ℕ) → Type 0
@@ -178,13 +187,26 @@ pub record IsBound (tuple : FiveTuple) (number : ℕ) (peer : Endpoint) (old : S
   pub permission : IsPermittedFrom tuple peer old.clock s.state
   pub others : OthersStay tuple old s.state
 
--- an Allocate request that comes again: each relayed address of the client, and a time that none of
--- them ends before
-pub record IsAgainTold (tuple : FiveTuple) (old : State) (s : Step) : Type 0 where
+-- ---- An Allocate request that comes again
+
+-- what a success response lists: each relayed address of the client
+abbrev pub all_given : FiveTuple → State → List Given
+all_given tuple state = map given_of (filter (is_clients tuple) state.relays)
+
+-- and of each family that it asks for in vain the reason: 440 if the server lacks the family
+abbrev pub all_missing : Setup → FiveTuple → List Want → State → List Missing
+all_missing setup tuple wants state =
+    map (λ w. record { family = w.family; code = if setup.has_family w.family then 508 else 440 })
+    (filter (λ w. not (list_any (is_clients_in tuple w.family) state.relays)) wants)
+
+-- it changes nothing. Its lifetime is the whole seconds until the first of these addresses ends
+pub record IsRepeated (setup : Setup) (tuple : FiveTuple) (wants : List Want) (old : State) (s : Step)
+    : Type 0 where
   pub kept : s.state ≡ old
-  pub given : List Given
   pub left : ℕ
-  pub missing : List Missing
-  pub output : s.output ≡ answers tuple (allocated given left missing)
-  pub each : AllByRecursion (λ a. is_clients tuple a ≡ true
-      → SomeOf (λ g. g ≡ given_of a) given × (old.clock + seconds left ≤ a.until)) old.relays
+  pub output : s.output
+      ≡ answers tuple (allocated (all_given tuple old) left (all_missing setup tuple wants old))
+  pub none_before : AllByRecursion (λ a. is_clients tuple a ≡ true
+      → old.clock + seconds left ≤ a.until) old.relays
+  pub one_within : SomeOf (λ a. (is_clients tuple a ≡ true)
+      × (a.until < old.clock + seconds (left + 1))) old.relays

@@ -19,5 +19,6 @@ pub mod Strangers
 pub mod Apart
 pub mod Examples
 pub mod Reserving
+pub mod Reservations
 pub mod Edges
 pub mod FlowCases

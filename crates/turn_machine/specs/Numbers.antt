@@ -1,8 +1,8 @@
 -- The numbers of sockets over runs: given once, and closed once.
-use Rattle.std.specs.Prelude.{◌≡◌, ℕ, List, [], ◌∷◌, ◌++◌, count_by}
+use Rattle.std.specs.Prelude.{◌≡◌, ℕ, List, [], ◌∷◌, ◌++◌, count_by, ◌==◌}
 use Rattle.stun_endpoints.specs.declared.endpoints.FiveTuple.{FiveTuple}
 use Rattle.turn_machine.specs.Lists.{SomeOf}
-use Rattle.turn_machine.specs.Relays.{State, is_at}
+use Rattle.turn_machine.specs.Relays.{State}
 use Rattle.turn_machine.specs.Events.{Given, Missing, Output, answers, allocated}
 use Rattle.turn_machine.specs.Runs.{Happening}
 
@@ -13,7 +13,7 @@ all_closed (h ∷ earlier) = h.closes ++ all_closed earlier
 
 -- how many live relayed addresses have a number
 abbrev pub kept_times : (number : ℕ) → State → ℕ
-kept_times number state = count_by (is_at number) state.relays
+kept_times number state = count_by (λ a. a.number == number) state.relays
 
 -- a success response to an Allocate request has this number
 pub record Gives (number : ℕ) (output : Output) : Type 0 where

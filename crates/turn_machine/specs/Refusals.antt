@@ -1,16 +1,16 @@
 -- Which code refuses a request (RFC 8656, sections 5, 7.2, 8.2, 10.2 and 12.2), each in terms of
 -- the request and of the state when it comes. If several apply, the order is that of the
 -- sections.
-use Rattle.std.specs.Prelude.{◌==◌, ◌≡◌, ℕ, ◌<◌, ◌≤◌, ◌⊎◌, ◌↔◌, true, false, List, [], ◌∷◌, length, count_by, Option, None, Some, not, ◌&&◌, nat_lt, ◌+◌, Bool}
+use Rattle.std.specs.Prelude.{◌==◌, ◌≡◌, ℕ, ◌<◌, ◌≤◌, ◌⊎◌, ◌↔◌, true, false, List, [], ◌∷◌, length, count_by, Option, None, Some, not, ◌&&◌, nat_lt, ◌+◌, Bool, filter}
 use Rattle.std.specs.List.{AllByRecursion, list_any}
 use Rattle.stun_endpoints.specs.declared.endpoints.Endpoint.{Endpoint}
 use Rattle.stun_endpoints.specs.declared.endpoints.FiveTuple.{FiveTuple}
 use Rattle.stun_endpoints.specs.Endpoints.{is_ip}
 use Rattle.turn_machine.specs.Lists.{SomeOf}
-use Rattle.turn_machine.specs.Relays.{Permission, Channel, Setup, Rules, State}
+use Rattle.turn_machine.specs.Relays.{Permission, Channel, Relay, Setup, Rules, State}
 use Rattle.turn_machine.specs.Events.{Want, Request, unfit_allocate, unfit, allocate, refresh, permit, bind, asks, answers, refused}
 use Rattle.turn_machine.specs.Times.{at}
-use Rattle.turn_machine.specs.Rows.{with_permissions, permissions_after, with_channel}
+use Rattle.turn_machine.specs.Rows.{permissions_after, with_channel}
 use Rattle.turn_machine.specs.Steps.{step}
 use Rattle.turn_machine.specs.Granting.{is_clients, is_by, is_clients_by, IsClash, IsFreeChannel, IsFree, Has, HasOf, LacksOf, IsOwn, IsBelowQuota}
 
@@ -28,8 +28,8 @@ IsRefusedIff setup rules state now tuple user request code Reason =
 -- ---- Section 5: whose the allocation is
 
 -- the 5-tuple has an allocation of another user
-abbrev pub IsAnothers : FiveTuple → (user : ℕ) → State → Type 0
-IsAnothers tuple user state =
+abbrev pub IsOfAnother : FiveTuple → (user : ℕ) → State → Type 0
+IsOfAnother tuple user state =
     SomeOf (λ a. (is_clients tuple a ≡ true) × (is_by user a ≡ false)) state.relays
 
 -- ---- Section 7.2, for a 5-tuple that has no allocation
@@ -84,7 +84,7 @@ LacksPermissions setup tuple user peers state =
 
 abbrev pub LacksChannels : Setup → FiveTuple → (user number : ℕ) → Endpoint → State → Type 0
 LacksChannels setup tuple user number peer state =
-    SomeOf (λ a. (is_clients_by tuple user a ≡ true)
+    SomeOf (λ a. (is_clients_by tuple user a ≡ true) × (a.family ≡ peer.ip.family)
     × (setup.most_channels < length (with_channel state.clock number peer a.channels))) state.relays
 
 -- the number is no channel's, or bound to another peer, or the peer to another number
@@ -130,7 +130,7 @@ pub record RefreshRefusals (setup : Setup) (rules : Rules) (state : State) (now 
   pub mismatch : IsRefusedIff setup rules state now tuple user (refresh family lifetime) 437
       (IsFree tuple (at now state))
   pub wrong_user : IsRefusedIff setup rules state now tuple user (refresh family lifetime) 441
-      (IsAnothers tuple user (at now state))
+      (IsOfAnother tuple user (at now state))
   pub family_mismatch : IsRefusedIff setup rules state now tuple user (refresh family lifetime) 443
       (IsOwn tuple user (at now state) × IsUncovered tuple family (at now state))
   pub no_other : IsRefusedOnly setup rules state now tuple user (refresh family lifetime)
@@ -141,7 +141,7 @@ pub record PermitRefusals (setup : Setup) (rules : Rules) (state : State) (now :
   pub mismatch : IsRefusedIff setup rules state now tuple user (permit peers) 437
       (IsFree tuple (at now state))
   pub wrong_user : IsRefusedIff setup rules state now tuple user (permit peers) 441
-      (IsAnothers tuple user (at now state))
+      (IsOfAnother tuple user (at now state))
   pub family_mismatch : IsRefusedIff setup rules state now tuple user (permit peers) 443
       (IsOwn tuple user (at now state) × LackFamily tuple peers (at now state))
   pub forbidden : IsRefusedIff setup rules state now tuple user (permit peers) 403
@@ -158,7 +158,7 @@ pub record BindRefusals (setup : Setup) (rules : Rules) (state : State) (now : �
   pub mismatch : IsRefusedIff setup rules state now tuple user (bind number peer) 437
       (IsFree tuple (at now state))
   pub wrong_user : IsRefusedIff setup rules state now tuple user (bind number peer) 441
-      (IsAnothers tuple user (at now state))
+      (IsOfAnother tuple user (at now state))
   pub bad_number : IsRefusedIff setup rules state now tuple user (bind number peer) 400
       (IsOwn tuple user (at now state) × IsBadNumber setup tuple number peer (at now state))
   pub family_mismatch : IsRefusedIff setup rules state now tuple user (bind number peer) 443
@@ -186,7 +186,7 @@ pub record UnfitRefusals (setup : Setup) (rules : Rules) (state : State) (now : 
       → IsRefused setup rules state now tuple user (unfit_allocate code) code
   pub mismatch : IsFree tuple (at now state)
       → IsRefused setup rules state now tuple user (unfit code) 437
-  pub wrong_user : IsAnothers tuple user (at now state)
+  pub wrong_user : IsOfAnother tuple user (at now state)
       → IsRefused setup rules state now tuple user (unfit code) 441
   pub other : IsOwn tuple user (at now state)
       → IsRefused setup rules state now tuple user (unfit code) code
@@ -197,9 +197,14 @@ pub record UnfitRefusals (setup : Setup) (rules : Rules) (state : State) (now : 
 abbrev pub is_left : ℕ → List Endpoint → Permission → Bool
 is_left now peers p = nat_lt now p.until && not (list_any (λ peer. is_ip peer.ip p.ip) peers)
 
-abbrev pub IsRoomByLive : ℕ → Endpoint → List Endpoint → List Permission → Type 0
-IsRoomByLive now peer peers ps = length (with_permissions now (peer ∷ peers) ps)
-    ≤ length (peer ∷ peers) + count_by (is_left now (peer ∷ peers)) ps
+-- of a relayed address, if peers of its family are named, and if none is
+pub record IsRoomByLive (now : ℕ) (peers : List Endpoint) (a : Relay) : Type 0 where
+  pub some : (first : Endpoint) (more : List Endpoint)
+      → filter (λ peer. peer.ip.family == a.family) peers ≡ first ∷ more
+      → length (permissions_after now peers a)
+      ≤ length (first ∷ more) + count_by (is_left now (first ∷ more)) a.permissions
+  pub none : filter (λ peer. peer.ip.family == a.family) peers ≡ []
+      → permissions_after now peers a ≡ a.permissions
 
 abbrev pub IsChannelRoomByLive : ℕ → (number : ℕ) → Endpoint → List Channel → Type 0
 IsChannelRoomByLive now number peer cs = length (with_channel now number peer cs)

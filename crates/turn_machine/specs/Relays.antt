@@ -45,7 +45,7 @@ pub record Setup : Type 0 where
   pub greatest_lifetime : ℕ
   pub last_channel : ℕ
   pub has_family : ℕ → Bool
-  pub keeps_whole : Bool
+  pub supports_dont_fragment : Bool
   pub passes_icmp : Bool
 
 -- the rules that are in force at an event: with which IP addresses clients may exchange data, and
@@ -74,8 +74,8 @@ is_for tuple family a = is_of tuple a && (a.family == family)
 abbrev pub is_users : (user : ℕ) → Relay → Bool
 is_users user a = a.user == user
 
-abbrev pub is_his : FiveTuple → (user : ℕ) → Relay → Bool
-is_his tuple user a = is_of tuple a && is_users user a
+abbrev pub is_owned : FiveTuple → (user : ℕ) → Relay → Bool
+is_owned tuple user a = is_of tuple a && is_users user a
 
 abbrev pub is_at : (number : ℕ) → Relay → Bool
 is_at number a = a.number == number

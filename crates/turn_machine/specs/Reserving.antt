@@ -11,7 +11,7 @@ use Rattle.turn_machine.specs.Events.{Offer, Want, allocate, Event, asks, alloca
 use Rattle.turn_machine.specs.Times.{at}
 use Rattle.turn_machine.specs.Rows.{has_any}
 use Rattle.turn_machine.specs.Steps.{Step, step}
-use Rattle.turn_machine.specs.Runs.{Timed, begun}
+use Rattle.turn_machine.specs.Runs.{Timed, initial_state}
 
 -- a socket that is held for a user: the token, the request that it was reserved by, and until when
 pub record Reservation : Type 0 where
@@ -23,7 +23,7 @@ pub record Reservation : Type 0 where
   pub offer : Offer
   pub until : ℕ
 
-pub record Holding : Type 0 where
+pub record OuterState : Type 0 where
   pub state : State
   pub held : List Reservation
 
@@ -39,7 +39,7 @@ pub data Outer : Type 0 where
 abbrev pub is_held : ℕ → Reservation → Bool
 is_held now r = nat_lt now r.until
 
-abbrev pub held_at : ℕ → Holding → List Reservation
+abbrev pub held_at : ℕ → OuterState → List Reservation
 held_at now h = filter (is_held (max h.state.clock now)) h.held
 
 abbrev pub is_users_held : (user : ℕ) → Reservation → Bool
@@ -136,13 +136,13 @@ token_for (claims tuple user id lifetime token) output held = None
 
 -- a step: the machine's; what is held after it, the token of the response, and the tokens whose
 -- time is over, so that the caller can close their sockets
-pub record Held : Type 0 where
-  pub holding : Holding
+pub record OuterStep : Type 0 where
+  pub holding : OuterState
   pub step : Step
   pub token : Option ℕ
   pub over : List ℕ
 
-abbrev pub outer_step : Setup → Rules → Holding → ℕ → Outer → Held
+abbrev pub outer_step : Setup → Rules → OuterState → ℕ → Outer → OuterStep
 outer_step setup rules h now outer =
     let held = held_at now h in
     let s = at now h.state in
@@ -162,12 +162,12 @@ pub record OuterTimed : Type 0 where
   pub rules : Rules
   pub outer : Outer
 
-abbrev pub outer_run : Setup → List OuterTimed → Holding
-outer_run setup [] = record { state = begun; held = [] }
+abbrev pub outer_run : Setup → List OuterTimed → OuterState
+outer_run setup [] = record { state = initial_state; held = [] }
 outer_run setup (t ∷ earlier) =
     (outer_step setup t.rules (outer_run setup earlier) t.now t.outer).holding
 
-abbrev pub inner_timed : Setup → Holding → OuterTimed → Timed
+abbrev pub inner_timed : Setup → OuterState → OuterTimed → Timed
 inner_timed setup h t = record {
   now = t.now;
   rules = t.rules;

@@ -7,7 +7,7 @@ use Rattle.stun_endpoints.specs.declared.endpoints.Ip.{Ip}
 use Rattle.stun_endpoints.specs.declared.endpoints.Endpoint.{Endpoint}
 use Rattle.stun_endpoints.specs.declared.endpoints.FiveTuple.{FiveTuple}
 use Rattle.stun_endpoints.specs.Endpoints.{is_ip, is_endpoint}
-use Rattle.turn_machine.specs.Relays.{seconds, Permission, Channel, Relay, Setup, Rules, State, is_of, is_users, is_his, has_room, has_quota}
+use Rattle.turn_machine.specs.Relays.{seconds, Permission, Channel, Relay, Setup, Rules, State, is_of, is_users, is_owned, has_room, has_quota}
 use Rattle.turn_machine.specs.Events.{Want, Request, allocate, unfit_allocate, refresh, permit, bind, unfit}
 use Rattle.turn_machine.specs.Opening.{has_of}
 
@@ -20,15 +20,15 @@ row applies code others = if applies then Some code else others
 abbrev pub has_any : FiveTuple → State → Bool
 has_any tuple state = list_any (is_of tuple) state.relays
 
-abbrev pub is_anothers : FiveTuple → (user : ℕ) → Relay → Bool
-is_anothers tuple user a = is_of tuple a && not (is_users user a)
+abbrev pub is_of_another : FiveTuple → (user : ℕ) → Relay → Bool
+is_of_another tuple user a = is_of tuple a && not (is_users user a)
 
-abbrev pub has_anothers : FiveTuple → (user : ℕ) → State → Bool
-has_anothers tuple user state = list_any (is_anothers tuple user) state.relays
+abbrev pub has_of_another : FiveTuple → (user : ℕ) → State → Bool
+has_of_another tuple user state = list_any (is_of_another tuple user) state.relays
 
 abbrev pub own_rows : FiveTuple → (user : ℕ) → State → Option ℕ → Option ℕ
 own_rows tuple user state others =
-    row (not (has_any tuple state)) 437 (row (has_anothers tuple user state) 441 others)
+    row (not (has_any tuple state)) 437 (row (has_of_another tuple user state) 441 others)
 
 -- ---- Allocate (7.2)
 
@@ -74,7 +74,7 @@ permissions_after now peers a = with_permissions now (peers_of a peers) a.permis
 
 abbrev pub lacks_permissions : Setup → ℕ → FiveTuple → (user : ℕ) → List Endpoint → Relay → Bool
 lacks_permissions setup now tuple user peers a =
-    is_his tuple user a && nat_lt setup.most_permissions (length (permissions_after now peers a))
+    is_owned tuple user a && nat_lt setup.most_permissions (length (permissions_after now peers a))
 
 abbrev pub have_families : FiveTuple → List Endpoint → State → Bool
 have_families tuple peers state = list_all (λ peer. has_of tuple peer.ip.family state) peers
@@ -113,8 +113,8 @@ is_channel_number setup number =
 
 abbrev pub lacks_channels : Setup → ℕ → FiveTuple → (user number : ℕ) → Endpoint → Relay → Bool
 lacks_channels setup now tuple user number peer a =
-    is_his tuple user a
-    && nat_lt setup.most_channels (length (with_channel now number peer a.channels))
+    is_owned tuple user a && ((peer.ip.family == a.family)
+    && nat_lt setup.most_channels (length (with_channel now number peer a.channels)))
 
 abbrev pub bind_rows : Setup → Rules → State → FiveTuple → (user number : ℕ) → Endpoint → Option ℕ
 bind_rows setup rules state tuple user number peer =

@@ -19,11 +19,11 @@ pub record Happening : Type 0 where
   pub output : Output
   pub closes : List ℕ
 
-abbrev pub begun : State
-begun = record { clock = 0; next = 0; relays = [] }
+abbrev pub initial_state : State
+initial_state = record { clock = 0; next = 0; relays = [] }
 
 abbrev pub run : Setup → List Timed → State
-run setup [] = begun
+run setup [] = initial_state
 run setup (timed ∷ earlier) =
     (step setup timed.rules (run setup earlier) timed.now timed.event).state
 

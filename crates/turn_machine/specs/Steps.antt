@@ -5,7 +5,7 @@ use Rattle.std.specs.List.{list_any}
 use Rattle.std.specs.Option.{option_map_or}
 use Rattle.stun_endpoints.specs.declared.endpoints.Endpoint.{Endpoint}
 use Rattle.stun_endpoints.specs.declared.endpoints.FiveTuple.{FiveTuple}
-use Rattle.turn_machine.specs.Relays.{seconds, Relay, Setup, Rules, State, is_users, is_his, is_at}
+use Rattle.turn_machine.specs.Relays.{seconds, Relay, Setup, Rules, State, is_users, is_owned, is_at}
 use Rattle.turn_machine.specs.Events.{Want, Request, allocate, unfit_allocate, refresh, permit, bind, unfit, Event, asks, sends, sends_on, arrives, bounces, ends, ends_user, ticks, refreshed, done, refused, Output, answers, nothing}
 use Rattle.turn_machine.specs.Times.{at, numbers, over_at, granted_for, refreshed_for, left_of}
 use Rattle.turn_machine.specs.Opening.{opens, allocation_answer}
@@ -21,7 +21,7 @@ pub record Step : Type 0 where
 
 abbrev pub changed : FiveTuple → (user : ℕ) → (Relay → Relay) → State → State
 changed tuple user change state =
-    record state { relays = map (λ a. if is_his tuple user a then change a else a) state.relays }
+    record state { relays = map (λ a. if is_owned tuple user a then change a else a) state.relays }
 
 -- those that pass a test end: their places are free, and their sockets are to be closed
 abbrev pub without : (Relay → Bool) → State → State
@@ -65,7 +65,7 @@ allocates setup tuple user id lifetime wants state =
 abbrev pub refreshes : FiveTuple → (user : ℕ) → (family : Option ℕ) → (lifetime : ℕ) → State → Step
 refreshes tuple user family lifetime state =
     if lifetime == 0
-    then closing (λ a. is_his tuple user a && is_wanted family a)
+    then closing (λ a. is_owned tuple user a && is_wanted family a)
     (answers tuple (refreshed lifetime)) state
     else keeping (changed tuple user (lasting family (state.clock + seconds lifetime)) state)
     (answers tuple (refreshed lifetime))
@@ -87,7 +87,7 @@ fulfils setup tuple user (unfit code) state = keeping state (answers tuple done)
 -- an Allocate request that comes again (7.2, the last note)
 abbrev pub is_again : FiveTuple → (user : ℕ) → Request → State → Bool
 is_again tuple user (allocate id lifetime wants) state =
-    list_any (λ a. is_his tuple user a && (a.opened_by == id)) state.relays
+    list_any (λ a. is_owned tuple user a && (a.opened_by == id)) state.relays
 is_again tuple user _ state = false
 
 abbrev pub answers_again : Setup → FiveTuple → Request → State → Output
@@ -115,8 +115,8 @@ abbrev pub happens : Setup → Rules → State → Event → Step
 happens setup rules state (asks tuple user request) = serves setup rules tuple user request state
 happens setup rules state (ends number) = closing (is_at number) nothing state
 happens setup rules state (ends_user user) = closing (is_users user) nothing state
-happens setup rules state (sends tuple peer whole bytes) =
-    keeping state (relayed setup rules state (sends tuple peer whole bytes))
+happens setup rules state (sends tuple peer dont_fragment bytes) =
+    keeping state (relayed setup rules state (sends tuple peer dont_fragment bytes))
 happens setup rules state (sends_on tuple number bytes) =
     keeping state (relayed setup rules state (sends_on tuple number bytes))
 happens setup rules state (arrives number peer bytes) =

@@ -13,7 +13,7 @@ use Rattle.turn_machine.specs.Numbers.{all_closed}
 -- a datagram that isn't a request of a user: anybody can send it
 abbrev pub is_datagram : Event → Bool
 is_datagram (asks tuple user request) = false
-is_datagram (sends tuple peer whole bytes) = true
+is_datagram (sends tuple peer dont_fragment bytes) = true
 is_datagram (sends_on tuple number bytes) = true
 is_datagram (arrives number peer bytes) = true
 is_datagram (bounces number peer icmp) = true
@@ -23,7 +23,7 @@ is_datagram ticks = false
 
 -- whether there is something that a datagram is for, by where it came from and to
 abbrev pub is_for_some : Event → State → Bool
-is_for_some (sends tuple peer whole bytes) state =
+is_for_some (sends tuple peer dont_fragment bytes) state =
     list_any (λ a. is_tuple tuple a.tuple) state.relays
 is_for_some (sends_on tuple number bytes) state =
     list_any (λ a. is_tuple tuple a.tuple) state.relays

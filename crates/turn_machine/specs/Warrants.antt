@@ -125,11 +125,11 @@ pub record IsWarranted (earlier : List Happening) (now : ℕ) (tuple : FiveTuple
 abbrev pub IsRight : Setup → List Happening → (now : ℕ) → Rules → Event → Output → Type 0
 IsRight setup earlier now rules event (answers tuple answer) =
     (user : ℕ) × (request : Request) × (event ≡ asks tuple user request)
-IsRight setup earlier now rules event (to_peer number peer whole bytes) =
+IsRight setup earlier now rules event (to_peer number peer dont_fragment bytes) =
     (tuple : FiveTuple) × ((rules.allows_ip peer.ip && rules.allows_port peer) ≡ true)
-    × (((event ≡ sends tuple peer whole bytes) × (whole ≡ true → setup.keeps_whole ≡ true)
+    × (((event ≡ sends tuple peer dont_fragment bytes) × (dont_fragment ≡ true → setup.supports_dont_fragment ≡ true)
     × IsWarranted earlier now tuple number peer (ArePermitting tuple peer now))
-    ⊎ ((channel : ℕ) × (event ≡ sends_on tuple channel bytes) × (whole ≡ false)
+    ⊎ ((channel : ℕ) × (event ≡ sends_on tuple channel bytes) × (dont_fragment ≡ false)
     × IsWarranted earlier now tuple number peer (AreBinding tuple channel peer now)))
 IsRight setup earlier now rules event (to_client tuple peer bytes) =
     (number : ℕ) × (event ≡ arrives number peer bytes) × (rules.allows_ip peer.ip ≡ true)

@@ -1,7 +1,7 @@
 //! A TURN server as a machine, and its laws. Each function does nothing: its contract is the law.
 #![tactic(auto)]
 
-ghost use Rattle.std.specs.Prelude.{◌≡◌, ◌↔◌, ◌≢◌, ◌&&◌, ◌<◌, ◌≤◌, ◌⊎◌, ◌*◌, ◌+◌, ◌==◌, ℕ, Bool, List, [], ◌∷◌, ◌++◌, length, map, count_by, max, min, Option, None, Some, true, false, find, if◌then◌else◌};
+ghost use Rattle.std.specs.Prelude.{◌≡◌, ◌↔◌, ◌≢◌, ◌&&◌, ◌<◌, ◌≤◌, ◌⊎◌, ◌*◌, ◌+◌, ◌==◌, ℕ, Bool, List, [], ◌∷◌, ◌++◌, length, map, count_by, filter, not, nat_lt, max, min, Option, None, Some, true, false, if◌then◌else◌};
 ghost use Rattle.std.specs.List.{AllByRecursion};
 ghost use Rattle.turn_machine.specs.Lists.{times};
 ghost use Rattle.stun_endpoints.specs.declared.endpoints.Ip.{Ip};
@@ -9,12 +9,12 @@ ghost use Rattle.stun_endpoints.specs.declared.endpoints.Endpoint.{Endpoint};
 ghost use Rattle.stun_endpoints.specs.declared.endpoints.FiveTuple.{FiveTuple};
 ghost use Rattle.stun_endpoints.specs.Endpoints.{is_ip, is_endpoint, is_tuple};
 ghost use Rattle.turn_machine.specs.Relays.{seconds, Permission, Channel, Relay, Setup, Rules, State};
-ghost use Rattle.turn_machine.specs.Events.{Event, ticks, Icmp, Offer, Want, sends, sends_on, bounces, to_peer, to_client, to_client_on, to_client_icmp, allocate, refresh, permit, bind, asks, arrives, allocated, refused, answers, nothing};
+ghost use Rattle.turn_machine.specs.Events.{Event, ticks, Icmp, Offer, Want, sends, sends_on, bounces, to_peer, to_client, to_client_on, to_client_icmp, allocate, refresh, permit, bind, unfit, permit_request, asks, arrives, allocated, refused, answers, nothing};
 ghost use Rattle.turn_machine.specs.Times.{at, over_at, granted_for, refreshed_for};
 ghost use Rattle.turn_machine.specs.Opening.{opened, with_relay};
 ghost use Rattle.turn_machine.specs.Steps.{keeping, step};
 ghost use Rattle.turn_machine.specs.Runs.{Timed, run, history, happening};
-ghost use Rattle.turn_machine.specs.Granting.{IsFree, IsOwn, IsFit, IsOpened, given_of, IsCovered, CanPermit, CanBind, IsRefreshed, ArePermitted, IsBound, IsAgainTold};
+ghost use Rattle.turn_machine.specs.Granting.{IsFree, Has, IsOwn, IsFit, IsOpened, given_of, IsCovered, CanPermit, CanBind, IsRefreshed, ArePermitted, IsBound, IsRepeated};
 ghost use Rattle.turn_machine.specs.Refusals.{IsAgain, IsUnready, AllocateRefusals, RefreshRefusals, PermitRefusals, BindRefusals, UnfitRefusals, IsRoomByLive, IsChannelRoomByLive};
 ghost use Rattle.turn_machine.specs.Quotas.{IsOneOf, AreBy};
 ghost use Rattle.turn_machine.specs.Warrants.{ArePermitting, AreBinding, IsRight};
@@ -22,9 +22,10 @@ ghost use Rattle.turn_machine.specs.Works.{is_reported, IsDue, output_of, Reache
 ghost use Rattle.turn_machine.specs.Flows.{Flow, flow_of, IsRelayed, IsLeft, IsFirstEnd};
 ghost use Rattle.turn_machine.specs.Strangers.{is_datagram, IsQuiet, IsForgotten};
 ghost use Rattle.turn_machine.specs.Apart.{is_own, own, sights, comes_to};
-ghost use Rattle.turn_machine.specs.Examples.{setup_1, setup_2, session, expected, flood, flood_expected, closed_by, dual, dual_expected, outputs};
-ghost use Rattle.turn_machine.specs.Reserving.{Reservation, Holding, reserved_by, reserves, claims, held_at, is_users_held, is_claim, is_token, reserved_want, outer_step, OuterTimed, outer_run, inner_run, outer_outputs};
-ghost use Rattle.turn_machine.specs.Edges.{said, wanted, setup_3, setup_4, requests, data_cases, icmp_cases, held_said, held_tokens, held_cases};
+ghost use Rattle.turn_machine.specs.Examples.{small_setup, dual_setup, session, expected, flood, flood_expected, closed_by, dual, dual_expected, outputs};
+ghost use Rattle.turn_machine.specs.Reserving.{Reservation, OuterState, Outer, plain, reserves, claims, outer_step, OuterTimed, outer_run, inner_run, outer_outputs};
+ghost use Rattle.turn_machine.specs.Reservations.{live_at, count_of, IsBelowQuota, held_for, made_by, IsReserved};
+ghost use Rattle.turn_machine.specs.Edges.{outputs_of, expected_of, plain_setup, icmp_setup, requests, data_cases, icmp_cases, held_outputs_of, held_tokens, held_cases};
 ghost use Rattle.turn_machine.specs.FlowCases.{flow_cases};
 ghost use Rattle.turn_machine.specs.Bounds.{IsWithin};
 ghost use Rattle.turn_machine.specs.Numbers.{all_closed, kept_times, Gives, IsGiven};
@@ -47,6 +48,12 @@ pub fn places_are_for_the_live()
     ensures due { (state : State) (now : ℕ)
         → AllByRecursion (λ a. max state.clock now < a.until) state.relays
         → (over_at now state ≡ []) × ((at now state).relays ≡ state.relays) }
+    ensures ended { (state : State) (now : ℕ)
+        → let moment = max state.clock now in
+        ((at now state).clock ≡ moment) × ((at now state).next ≡ state.next)
+        × ((at now state).relays ≡ filter (λ a. nat_lt moment a.until) state.relays)
+        × (over_at now state
+        ≡ map (λ a. a.number) (filter (λ a. not (nat_lt moment a.until)) state.relays)) }
     ensures new { (setup : Setup) (events : List Timed) (timed : Timed) (number : ℕ)
         → IsGiven number (history setup events)
         → Gives number (happening setup (run setup events) timed).output
@@ -120,7 +127,7 @@ pub fn fit_is_granted()
     ensures again { (setup : Setup) (rules : Rules) (events : List Timed) (now : ℕ)
         (tuple : FiveTuple) (user id : ℕ) (lifetime : Option ℕ) (wants : List Want)
         → let s = at now (run setup events) in IsAgain tuple user id s
-        → IsAgainTold tuple s (step setup rules (run setup events) now
+        → IsRepeated setup tuple wants s (step setup rules (run setup events) now
         (asks tuple user (allocate id lifetime wants))) }
     ensures lifetimes { (wanted greatest : ℕ)
         → (seconds wanted ≡ wanted * 1_000_000_000)
@@ -144,12 +151,15 @@ pub fn refusals_are_exact()
     ensures binds { (setup : Setup) (rules : Rules) (state : State) (now : ℕ) (tuple : FiveTuple)
         (user number : ℕ) (peer : Endpoint)
         → BindRefusals setup rules state now tuple user number peer }
-    ensures room { (now : ℕ) (peer : Endpoint) (peers : List Endpoint) (ps : List Permission)
-        → IsRoomByLive now peer peers ps }
+    ensures room { (now : ℕ) (peers : List Endpoint) (a : Relay) → IsRoomByLive now peers a }
     ensures channel_room { (now number : ℕ) (peer : Endpoint) (cs : List Channel)
         → IsChannelRoomByLive now number peer cs }
     ensures unfit { (setup : Setup) (rules : Rules) (state : State) (now : ℕ) (tuple : FiveTuple)
         (user code : ℕ) → UnfitRefusals setup rules state now tuple user code }
+    ensures few_peers { (peers : List Endpoint) → length peers ≤ 64
+        → permit_request peers ≡ permit peers }
+    ensures many_peers { (peers : List Endpoint) → 64 < length peers
+        → permit_request peers ≡ unfit 508 }
 {}
 
 /// No user ever has more than the quota. If the quotas of all who ever asked fit into the room,
@@ -217,13 +227,13 @@ pub fn relaying_is_warranted()
 /// reaches the client; and so does ICMP.
 pub fn what_is_permitted_works()
     ensures out { (setup : Setup) (earlier : List Timed) (now : ℕ) (rules : Rules)
-        (tuple : FiveTuple) (number : ℕ) (peer : Endpoint) (whole : Bool) (bytes : List ℕ)
+        (tuple : FiveTuple) (number : ℕ) (peer : Endpoint) (dont_fragment : Bool) (bytes : List ℕ)
         → let moment = (at now (run setup earlier)).clock in
         IsDue (history setup earlier) moment tuple number peer (ArePermitting tuple peer moment)
         → (rules.allows_ip peer.ip && rules.allows_port peer) ≡ true
-        → (whole ≡ true → setup.keeps_whole ≡ true)
-        → output_of setup earlier now rules (sends tuple peer whole bytes)
-        ≡ to_peer number peer whole bytes }
+        → (dont_fragment ≡ true → setup.supports_dont_fragment ≡ true)
+        → output_of setup earlier now rules (sends tuple peer dont_fragment bytes)
+        ≡ to_peer number peer dont_fragment bytes }
     ensures on_channel { (setup : Setup) (earlier : List Timed) (now : ℕ) (rules : Rules)
         (tuple : FiveTuple) (number : ℕ) (peer : Endpoint) (channel : ℕ) (bytes : List ℕ)
         → let moment = (at now (run setup earlier)).clock in
@@ -359,55 +369,80 @@ pub fn clients_are_apart()
 /// Sessions, evaluated: what each event is answered with, and which sockets are to be closed; and
 /// the edges of the rules, with their moments to the nanosecond.
 pub fn sessions_go_so()
-    ensures session { outputs (history setup_1 session) ≡ expected }
-    ensures flood { outputs (history setup_1 flood) ≡ flood_expected }
-    ensures closed { closed_by (history setup_1 flood)
+    ensures session { outputs (history small_setup session) ≡ expected }
+    ensures flood { outputs (history small_setup flood) ≡ flood_expected }
+    ensures closed { closed_by (history small_setup flood)
         ≡ ([] ∷ [] ∷ (1 ∷ []) ∷ [] ∷ (0 ∷ []) ∷ [] ∷ []) }
-    ensures reported { all_closed (history setup_1 session) ≡ (1 ∷ 0 ∷ []) }
-    ensures dual { outputs (history setup_2 dual) ≡ dual_expected }
-    ensures requests { said setup_3 requests ≡ wanted requests }
-    ensures data { said setup_3 data_cases ≡ wanted data_cases }
-    ensures icmp { said setup_4 icmp_cases ≡ wanted icmp_cases }
-    ensures flows { map (λ c. flow_of (run setup_3 c.earlier) c.tuple c.channel) flow_cases
+    ensures reported { all_closed (history small_setup session) ≡ (1 ∷ 0 ∷ []) }
+    ensures dual { outputs (history dual_setup dual) ≡ dual_expected }
+    ensures requests { outputs_of plain_setup requests ≡ expected_of requests }
+    ensures data { outputs_of plain_setup data_cases ≡ expected_of data_cases }
+    ensures icmp { outputs_of icmp_setup icmp_cases ≡ expected_of icmp_cases }
+    ensures flows { map (λ c. flow_of (run plain_setup c.earlier) c.tuple c.channel) flow_cases
         ≡ map (λ c. c.flow) flow_cases }
-    ensures held { held_said setup_3 held_cases ≡ map (λ c. c.told) held_cases }
-    ensures held_tokens { held_tokens setup_3 held_cases ≡ map (λ c. c.token) held_cases }
+    ensures held { held_outputs_of plain_setup held_cases ≡ map (λ c. c.reply) held_cases }
+    ensures held_tokens { held_tokens plain_setup held_cases ≡ map (λ c. c.token) held_cases }
 {}
 
 /// EVEN-PORT with its bit, and RESERVATION-TOKEN: a run with reservations is a run of the
 /// machine, so all laws hold of it. What is fit is reserved, for 30 seconds; its token serves its
-/// user, and once; another opens nothing. A user never holds more than the quota.
+/// user, and once; another opens nothing. Only a request that opens an allocation reserves, and only
+/// one that opens an allocation uses up a token: a refused request, one that comes again, and all
+/// other events leave the reservations as they are. A user never holds more than the quota. Each
+/// reservation that expires is reported.
 pub fn reservations_are_kept()
     ensures state { (setup : Setup) (events : List OuterTimed)
         → (outer_run setup events).state ≡ run setup (inner_run setup events) }
     ensures outputs { (setup : Setup) (events : List OuterTimed)
         → outer_outputs setup events ≡ outputs (history setup (inner_run setup events)) }
     ensures few { (setup : Setup) (events : List OuterTimed) (user : ℕ)
-        → count_by (is_users_held user) (outer_run setup events).held ≤ setup.most_of_user }
-    ensures reserved { (setup : Setup) (rules : Rules) (h : Holding) (now : ℕ) (tuple : FiveTuple)
-        (user id : ℕ) (lifetime : Option ℕ) (want : Want) (offer next : Offer) (token : ℕ)
-        → let s = at now h.state in let held = held_at now h in
-        let r = reserved_by s.clock tuple user id want next token in
+        → count_of user (outer_run setup events).held ≤ setup.most_of_user }
+    ensures reserved { (setup : Setup) (rules : Rules) (h : OuterState) (now : ℕ)
+        (tuple : FiveTuple) (user id : ℕ) (lifetime : Option ℕ) (want : Want) (offer next : Offer)
+        (token : ℕ) → let s = at now h.state in let held = live_at s.clock h.held in
         let done = outer_step setup rules h now
         (reserves tuple user id lifetime want (Some next) token) in
-        IsFit setup tuple user want offer s
-        → count_by (is_users_held user) held < setup.most_of_user
+        IsFit setup tuple user want offer s → IsBelowQuota setup user held
+        → (r : Reservation) × IsReserved s.clock tuple user id want next token r
+        × (done.holding.held ≡ r ∷ held) × (done.token ≡ Some token)
+        × (done.step
+        ≡ step setup rules h.state now (asks tuple user (allocate id lifetime (want ∷ [])))) }
+    ensures claimed { (setup : Setup) (rules : Rules) (h : OuterState) (now : ℕ)
+        (tuple : FiveTuple) (user id : ℕ) (lifetime : Option ℕ) (token : ℕ) (r : Reservation)
+        → let s = at now h.state in let held = live_at s.clock h.held in
+        let want : Want = record { family = r.family; ready = Some r.offer } in
+        let done = outer_step setup rules h now (claims tuple user id lifetime token) in
+        held_for user token held ≡ Some r → IsFit setup tuple user want r.offer s
         → (done.step
         ≡ step setup rules h.state now (asks tuple user (allocate id lifetime (want ∷ []))))
-        × (done.token ≡ Some token) × (done.holding.held ≡ r ∷ held) }
-    ensures claimed { (setup : Setup) (rules : Rules) (h : Holding) (now : ℕ) (tuple : FiveTuple)
-        (user id : ℕ) (lifetime : Option ℕ) (token : ℕ) (r : Reservation)
-        → let done = outer_step setup rules h now (claims tuple user id lifetime token) in
-        find (is_claim user token) (held_at now h) ≡ Some r
-        → IsFit setup tuple user (reserved_want r) r.offer (at now h.state)
-        → (done.step ≡ step setup rules h.state now
-        (asks tuple user (allocate id lifetime (reserved_want r ∷ []))))
-        × (find (is_token token) done.holding.held ≡ None) }
-    ensures not_claimed { (setup : Setup) (rules : Rules) (h : Holding) (now : ℕ)
+        × (done.holding.held ≡ filter (λ x. not (x.token == token)) held) }
+    ensures not_claimed { (setup : Setup) (rules : Rules) (h : OuterState) (now : ℕ)
         (tuple : FiveTuple) (user id : ℕ) (lifetime : Option ℕ) (token : ℕ)
-        → AllByRecursion (λ r. ¬ ((r.token ≡ token) × (r.user ≡ user))) (held_at now h)
+        → let s = at now h.state in held_for user token (live_at s.clock h.held) ≡ None
         → (outer_step setup rules h now (claims tuple user id lifetime token)).holding.state.relays
-        ≡ (at now h.state).relays }
+        ≡ s.relays }
+    ensures refused { (setup : Setup) (rules : Rules) (h : OuterState) (now : ℕ) (outer : Outer)
+        (tuple : FiveTuple) (code : ℕ) → let done = outer_step setup rules h now outer in
+        done.step.output ≡ answers tuple (refused code)
+        → (done.holding.held ≡ live_at (at now h.state).clock h.held) × (done.token ≡ None) }
+    ensures again { (setup : Setup) (rules : Rules) (h : OuterState) (now : ℕ) (tuple : FiveTuple)
+        (user id : ℕ) (lifetime : Option ℕ) (want : Want) (next : Option Offer) (token : ℕ)
+        → let s = at now h.state in let held = live_at s.clock h.held in
+        let done = outer_step setup rules h now (reserves tuple user id lifetime want next token) in
+        IsAgain tuple user id s → (done.holding.held ≡ held)
+        × ((r : Reservation) → made_by tuple id held ≡ Some r → done.token ≡ Some r.token) }
+    ensures claimed_again { (setup : Setup) (rules : Rules) (h : OuterState) (now : ℕ)
+        (tuple : FiveTuple) (user id : ℕ) (lifetime : Option ℕ) (token : ℕ)
+        → let s = at now h.state in Has tuple s
+        → (outer_step setup rules h now (claims tuple user id lifetime token)).holding.held
+        ≡ live_at s.clock h.held }
+    ensures others { (setup : Setup) (rules : Rules) (h : OuterState) (now : ℕ) (event : Event)
+        → let done = outer_step setup rules h now (plain event) in
+        (done.holding.held ≡ live_at (at now h.state).clock h.held) × (done.token ≡ None)
+        × (done.step ≡ step setup rules h.state now event) }
+    ensures expired { (setup : Setup) (rules : Rules) (h : OuterState) (now : ℕ) (outer : Outer)
+        → (outer_step setup rules h now outer).over
+        ≡ map (λ r. r.token) (filter (λ r. not (nat_lt (max h.state.clock now) r.until)) h.held) }
 {}
 
 /// The tests by which the definitions compare addresses and 5-tuples are equality.

@@ -60,9 +60,9 @@ returns-clause-bound c = λ setup rules state now tuple user number peer can.
 pub returns-clause-again : goal.returns-clause-again
 returns-clause-again c = λ setup rules events now tuple user id lifetime wants again.
     let state = run setup events in
-    let told = again_told setup rules tuple user id lifetime wants (at now state) again
+    let reply = again_told setup rules tuple user id lifetime wants (at now state) again
     (each_filtered (λ a. state.clock < a.until) (λ a. max state.clock now < a.until) (is_live (max state.clock now)) (λ a live _. ltb-true (max state.clock now) a.until live) state.relays (run_live setup events)) in
-    record { kept = told.kept; given = told.given; left = told.left; missing = told.missing; output = told.output; each = told.each }
+    record { kept = reply.kept; left = reply.left; output = reply.output; none_before = reply.none_before; one_within = reply.one_within }
 
 pub returns-clause-lifetimes : goal.returns-clause-lifetimes
 returns-clause-lifetimes c = λ wanted greatest. (refl, refl, refl, refl, refl, refreshed_exactly wanted greatest)

@@ -1,3 +1,4 @@
+use Rattle.std.proofs.Common.{refl}
 use Rattle.turn_machine.proofs.KeptLemmas.{run_live}
 use Rattle.turn_machine.proofs.NumbersLemmas.{given_again}
 use Rattle.turn_machine.proofs.NumbersLemmas.{late_dropped}
@@ -23,3 +24,6 @@ returns-clause-late c = late_dropped
 
 pub returns-clause-due : goal.returns-clause-due
 returns-clause-due c = not_due
+
+pub returns-clause-ended : goal.returns-clause-ended
+returns-clause-ended c = λ state now. (refl, refl, refl, refl)

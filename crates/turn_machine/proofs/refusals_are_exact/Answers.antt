@@ -1,4 +1,4 @@
-use Rattle.turn_machine.proofs.RefusalsLemmas.{allocate_refusals, unfit_refusals, room_by_live, channel_room_by_live}
+use Rattle.turn_machine.proofs.RefusalsLemmas.{allocate_refusals, unfit_refusals, room_by_live, channel_room_by_live, few_peers, many_peers}
 use Rattle.turn_machine.proofs.RefusalsLemmas.{bind_refusals}
 use Rattle.turn_machine.proofs.RefusalsLemmas.{permit_refusals}
 use Rattle.turn_machine.proofs.RefusalsLemmas.{refresh_refusals}
@@ -24,3 +24,9 @@ returns-clause-room c = room_by_live
 
 pub returns-clause-channel_room : goal.returns-clause-channel_room
 returns-clause-channel_room c = channel_room_by_live
+
+pub returns-clause-few_peers : goal.returns-clause-few_peers
+returns-clause-few_peers c = few_peers
+
+pub returns-clause-many_peers : goal.returns-clause-many_peers
+returns-clause-many_peers c = many_peers
