@@ -1,4 +1,4 @@
--- What a client sees of a run, and what it did itself.
+-- The events of one client, and what it observes of a run.
 use Rattle.std.specs.Prelude.{ℕ, Bool, true, false, ◌&&◌, ◌==◌, if◌then◌else◌, List, [], ◌∷◌, Option, None, Some}
 use Rattle.std.specs.List.{list_any}
 use Rattle.stun_endpoints.specs.declared.endpoints.FiveTuple.{FiveTuple}
@@ -7,8 +7,9 @@ use Rattle.turn_machine.specs.Relays.{Rules}
 use Rattle.turn_machine.specs.Events.{allocate, Event, asks, sends, sends_on, arrives, bounces, ends, ends_user, ticks, allocated, Output, answers, to_peer, to_client, to_client_on, to_client_icmp, nothing}
 use Rattle.turn_machine.specs.Runs.{Happening}
 
--- ---- A client's own events: what came from it, what came to a socket that it has got, and that
--- the caller ended such a socket, or all of a user whose requests came from it
+-- ---- A client's own events: datagrams from the client; datagrams and ICMP packets at a socket
+-- that it was given; and the end of such a socket, or of all that a user has whose requests came
+-- from this client
 
 abbrev pub gives_to : FiveTuple → (number : ℕ) → Output → Bool
 gives_to tuple number (answers other (allocated given lifetime missing)) =
@@ -35,8 +36,8 @@ is_own tuple earlier (ends number) = has_got tuple number earlier
 is_own tuple earlier (ends_user user) = has_asked tuple user earlier
 is_own tuple earlier ticks = false
 
--- an Allocate request: whether there is quota and room, and which number is next, others decide, so
--- its answer counts as given
+-- An Allocate request. Its answer depends on the quota, the room and the next number, and so on
+-- other clients: it is part of what the client's own events are
 abbrev pub is_allocate : Event → Bool
 is_allocate (asks tuple user (allocate id lifetime wants)) = true
 is_allocate _ = false
@@ -60,7 +61,8 @@ own tuple [] = []
 own tuple (h ∷ earlier) =
     if is_own tuple earlier h.event then own_of h ∷ own tuple earlier else own tuple earlier
 
--- ---- What it sees at each of them: the answers to it, its data to peers, and peers' data to it
+-- ---- What the client observes at each of its events: the responses to it, its data to peers, and
+-- peers' data to it
 
 abbrev pub seen : FiveTuple → Output → Output
 seen tuple (answers other answer) = answers other answer
@@ -86,7 +88,7 @@ sights tuple (h ∷ earlier) =
     if is_own tuple earlier h.event then sight tuple h ∷ sights tuple earlier
     else sights tuple earlier
 
--- whether something is sent to the client
+-- whether the output is sent to the client
 abbrev pub comes_to : FiveTuple → Output → Bool
 comes_to tuple (answers other answer) = is_tuple tuple other
 comes_to tuple (to_client other peer bytes) = is_tuple tuple other

@@ -1,4 +1,4 @@
--- Bounds of what is kept.
+-- The limits of one relayed address.
 use Rattle.std.specs.Prelude.{◌≤◌, length}
 use Rattle.turn_machine.specs.Relays.{Relay, Setup}
 

@@ -1,5 +1,6 @@
--- What is relayed (RFC 8656, sections 9, 11.2, 11.3, 11.5, 12.6 and 12.7). None of it changes
--- what is kept. Each datagram asks the rules that are in force when it comes.
+-- How data and ICMP are relayed (RFC 8656, sections 9, 11.2, 11.3, 11.5, 12.6 and 12.7). Relaying
+-- changes no state. Each datagram is checked against the rules in force when it arrives, so a peer
+-- that becomes forbidden is cut off at once.
 use Rattle.std.specs.Prelude.{ℕ, Bool, false, not, ◌&&◌, ◌||◌, List, find, ◌==◌, if◌then◌else◌}
 use Rattle.std.specs.List.{list_any}
 use Rattle.std.specs.Option.{option_map_or}
@@ -8,17 +9,17 @@ use Rattle.stun_endpoints.specs.declared.endpoints.FiveTuple.{FiveTuple}
 use Rattle.turn_machine.specs.Relays.{Channel, Relay, Setup, Rules, State, is_of, is_for, is_at, is_permitted, is_channel, is_channel_of}
 use Rattle.turn_machine.specs.Events.{Icmp, Event, asks, sends, sends_on, arrives, bounces, ends, ends_user, ticks, Output, to_peer, to_client, to_client_on, to_client_icmp, nothing}
 
--- nothing is sent to a forbidden port, as that of the server itself, which would be a loop (21.1.7)
+-- Nothing is sent to a forbidden port, such as the server's own, which would be a loop (21.1.7)
 abbrev pub allows : Rules → Endpoint → Bool
 allows rules peer = rules.allows_ip peer.ip && rules.allows_port peer
 
--- a Send indication: there is a permission (11.2)
+-- A Send indication needs a permission (11.2)
 abbrev pub sent : Setup → Rules → ℕ → Endpoint → (dont_fragment : Bool) → List ℕ → Relay → Output
 sent setup rules now peer dont_fragment bytes a =
     if is_permitted now peer.ip a && (allows rules peer && (not dont_fragment || setup.supports_dont_fragment))
     then to_peer a.number peer dont_fragment bytes else nothing
 
--- a ChannelData message: the channel is bound. Section 12.6 asks for no permission
+-- ChannelData needs a bound channel. Section 12.6 requires no permission
 abbrev pub sent_by : Rules → List ℕ → Relay → Channel → Output
 sent_by rules bytes a c =
     if allows rules c.peer then to_peer a.number c.peer false bytes else nothing
@@ -30,8 +31,8 @@ sent_on rules now number bytes a =
 abbrev pub has_channel : ℕ → FiveTuple → (number : ℕ) → Relay → Bool
 has_channel now tuple number a = is_of tuple a && list_any (is_channel now number) a.channels
 
--- data from a peer: there is a permission (9); by the channel, if one is bound to the peer (11.3,
--- 12.7)
+-- Data from a peer needs a permission (9). It is sent on the channel that is bound to the peer's
+-- transport address, or as a Data indication if there is none (11.3, 12.7)
 abbrev pub by_channel : Endpoint → List ℕ → Relay → Channel → Output
 by_channel peer bytes a c = to_client_on a.tuple c.number bytes
 
@@ -42,7 +43,8 @@ received rules now peer bytes a =
     (to_client a.tuple peer bytes)
     else nothing
 
--- an ICMP packet: of a type that is passed on, about a datagram to a peer with a permission (11.5)
+-- An ICMP packet is relayed if its type is one of section 11.5 and there is a permission for the IP
+-- address to which the offending datagram was sent
 abbrev pub is_passed : (family : ℕ) → Icmp → Bool
 is_passed family icmp =
     if family == 1 then (icmp.type_number == 3) || (icmp.type_number == 11)

@@ -1,5 +1,5 @@
--- The edges of the rules, to be evaluated: each event with what it is answered, in the order in
--- which they come.
+-- The edges of the rules, as cases that the prover evaluates: each event with its expected output,
+-- in order of time.
 use Rattle.turn_machine.specs.Reserving.{OuterState, Outer, plain, reserves, claims, outer_step, OuterTimed, outer_run, outer_outputs}
 use Rattle.std.specs.Prelude.{ℕ, ◌-◌, ◌==◌, ◌||◌, not, true, false, List, [], ◌∷◌, map, reverse, None, Some, Option}
 use Rattle.stun_endpoints.specs.declared.endpoints.Endpoint.{Endpoint}
@@ -19,7 +19,7 @@ outputs_of setup cases = reverse (outputs (history setup (reverse (map (λ c. c.
 abbrev pub expected_of : List Case → List Output
 expected_of cases = map (λ c. c.reply) cases
 
--- room for three, two of a user; neither DF nor ICMP
+-- Three relayed addresses, two of them for one user; no DF bit and no ICMP
 abbrev pub plain_setup : Setup
 plain_setup = record {
   most_relays = 3;
@@ -33,14 +33,14 @@ plain_setup = record {
   passes_icmp = false;
 }
 
--- all IP addresses but 66, all ports but 99
+-- All IP addresses are allowed but number 66, and all ports but 99
 abbrev pub peer_rules : Rules
 peer_rules = record {
   allows_ip = λ ip. not (ip.number == 66);
   allows_port = λ peer. not (peer.port == 99);
 }
 
--- and all but 21 too
+-- Number 21 is forbidden too
 abbrev pub stricter_rules : Rules
 stricter_rules = record {
   allows_ip = λ ip. not ((ip.number == 66) || (ip.number == 21));
@@ -51,7 +51,7 @@ abbrev pub on : ℕ → Event → Output → Case
 on n event reply =
     record { timed = record { now = seconds n; rules = peer_rules; event = event }; reply = reply }
 
--- just before a second
+-- a nanosecond before the second
 abbrev pub before : ℕ → Event → Output → Case
 before n event reply =
     record { timed = record { now = seconds n - 1; rules = peer_rules; event = event }; reply = reply }
@@ -75,11 +75,11 @@ yes n = answers (client n) done
 abbrev pub blocked : Endpoint
 blocked = record { ip = record { family = 1; number = 21 }; port = 99 }
 
--- another port of 22
+-- another port of peer 22
 abbrev pub same_ip_other_port : Endpoint
 same_ip_other_port = record { ip = record { family = 1; number = 22 }; port = 3480 }
 
--- requests: 11 and 12 are Alice's, 13 and 14 Bob's
+-- Requests: clients 11 and 12 are Alice's, 13 and 14 Bob's
 abbrev pub requests : List Case
 requests =
     on 1 (asks_from 11 alice (refresh None None)) (no 11 437)
@@ -152,7 +152,7 @@ bytes = 1 ∷ 2 ∷ []
 abbrev pub unreachable : Icmp
 unreachable = record { type_number = 3; code = 1; error_data = 0 }
 
--- data: 11 is Alice's, 13 Bob's
+-- Data: client 11 is Alice's, 13 is Bob's
 abbrev pub data_cases : List Case
 data_cases =
     on 1 (sends (client 11) (address 21) false bytes) nothing
@@ -205,7 +205,7 @@ data_cases =
     ∷ on 1001 (sends_on (client 11) 0x4000 bytes) nothing
     ∷ []
 
--- ICMP, on a server that passes it on
+-- ICMP, on a server that relays it
 abbrev pub icmp_setup : Setup
 icmp_setup = record plain_setup { passes_icmp = true }
 
@@ -231,7 +231,7 @@ icmp_cases =
     ∷ on 2 (bounces 41 (ipv6_address 22) (of_type 1)) nothing
     ∷ []
 
--- reservations: each event with what it is answered, and the token of the response
+-- Reservations: each event with its expected output, and the token in the response
 pub record HeldCase : Type 0 where
   pub timed : OuterTimed
   pub reply : Output

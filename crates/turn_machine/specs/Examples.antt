@@ -1,4 +1,4 @@
--- A session, to be evaluated.
+-- Sessions that the prover evaluates.
 use Rattle.std.specs.Prelude.{ℕ, ◌==◌, ◌||◌, not, true, false, List, [], ◌∷◌, map, None, Some}
 use Rattle.stun_endpoints.specs.declared.endpoints.Endpoint.{Endpoint}
 use Rattle.stun_endpoints.specs.declared.endpoints.FiveTuple.{FiveTuple}
@@ -28,7 +28,7 @@ small_setup = record {
   passes_icmp = true;
 }
 
--- all addresses but one
+-- all IP addresses but number 66
 abbrev pub one_forbidden : Rules
 one_forbidden = record { allows_ip = λ ip. not (ip.number == 66); allows_port = λ peer. true }
 
@@ -50,7 +50,7 @@ alice = 7
 abbrev pub bob : ℕ
 bob = 8
 
--- the newest first
+-- the newest event first
 abbrev pub session : List Timed
 session =
     at_second 1200 ticks
@@ -76,7 +76,7 @@ session =
 abbrev pub outputs : List Happening → List Output
 outputs hs = map (λ h. h.output) hs
 
--- what each is answered, the newest first
+-- the expected outputs, the newest first
 abbrev pub expected : List Output
 expected =
     nothing
@@ -99,7 +99,8 @@ expected =
     ∷ answers (client 11) (allocated (ipv4_given 0 31 ∷ []) 600 [])
     ∷ []
 
--- one user with a quota of 1 opens and ends an allocation again and again; then both have one
+-- One user, with a quota of 1, allocates and ends its allocation in a loop. Then both users have
+-- one
 abbrev pub flood : List Timed
 flood =
     at_second 2 (asks (client 11) alice (allocate 3 None (ipv4_want 31 ∷ [])))
@@ -123,7 +124,7 @@ flood_expected =
 abbrev pub closed_by : List Happening → List (List ℕ)
 closed_by hs = map (λ h. h.closes) hs
 
--- two families, of which one socket is ready; refreshed one by one
+-- Two families, with a socket for one of them only; each is refreshed by itself
 abbrev pub dual_setup : Setup
 dual_setup = record small_setup { most_of_user = 2 }
 

@@ -1,4 +1,4 @@
--- Flows, to be evaluated: after what has come, which one a channel is.
+-- Flows that the prover evaluates: after which events a channel is which flow.
 use Rattle.std.specs.Prelude.{ℕ, List, [], ◌∷◌, Option, None, Some}
 use Rattle.stun_endpoints.specs.declared.endpoints.FiveTuple.{FiveTuple}
 use Rattle.turn_machine.specs.Relays.{seconds}
@@ -25,7 +25,7 @@ abbrev pub to : (number peer until : ℕ) → Option Flow
 to number peer until =
     Some (record { number = number; peer = address peer; until = seconds until })
 
--- the newest first: Alice's allocation lasts until 1001, Bob's until 604
+-- the newest event first. Alice's allocation lasts until 1001 s, Bob's until 604 s
 abbrev pub two_clients : List Timed
 two_clients =
     come 5 (asks (client 12) bob (bind 0x4000 (address 23)))

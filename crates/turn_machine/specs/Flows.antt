@@ -1,5 +1,5 @@
--- Flows: what may be relayed on a channel, both ways, without the machine being asked, and until
--- when (RFC 8656, sections 6, 9 and 12).
+-- Flows: a channel whose data may be relayed in both directions without asking the machine, and
+-- until when (RFC 8656, sections 6, 9 and 12). A program in the kernel or a fast path may do so.
 use Rattle.std.specs.Prelude.{◌≡◌, ℕ, ◌<◌, Bool, true, false, not, ◌&&◌, ◌||◌, List, [], ◌∷◌, ◌++◌, find, min, Option, None, Some}
 use Rattle.std.specs.Option.{option_map_or}
 use Rattle.stun_endpoints.specs.declared.endpoints.Endpoint.{Endpoint}
@@ -13,13 +13,13 @@ use Rattle.turn_machine.specs.Runs.{Timed, Happening, run, happening}
 use Rattle.turn_machine.specs.Warrants.{is_ended}
 use Rattle.turn_machine.specs.Works.{output_of}
 
--- the number of the socket; the peer; and the moment from which the machine is asked again
+-- the number of the socket; the peer; and the moment from which the machine must be asked again
 pub record Flow : Type 0 where
   pub number : ℕ
   pub peer : Endpoint
   pub until : ℕ
 
--- it ends with the first of the relayed address, the channel and the permission
+-- The flow ends with the first of the relayed address, the channel and the permission
 abbrev pub flow_with : Relay → Channel → Permission → Flow
 flow_with a c p = record {
   number = a.number;
@@ -27,7 +27,7 @@ flow_with a c p = record {
   until = min a.until (min c.until p.until);
 }
 
--- to the peer the channel is enough (12.6); from the peer a permission is needed too (9)
+-- To the peer the channel is enough (12.6). Data from the peer needs a permission as well (9)
 abbrev pub flow_by : ℕ → Relay → Channel → Option Flow
 flow_by now a c =
     option_map_or (λ p. Some (flow_with a c p)) (find (is_permission now c.peer.ip) a.permissions)
@@ -44,8 +44,8 @@ flow_of state tuple channel =
 
 -- ---- Words of the law
 
--- from a state until it ends, whatever the data, a flow is as the machine relays; the rules allow
--- the peer when the datagram comes
+-- Before the flow ends, both directions are relayed as the flow says, for all bytes, if the rules
+-- allow the peer when the datagram arrives
 pub record IsRelayed (setup : Setup) (earlier : List Timed) (tuple : FiveTuple) (channel : ℕ)
     (flow : Flow) : Type 0 where
   pub out : (now : ℕ) (rules : Rules) (bytes : List ℕ) → now < flow.until
@@ -65,21 +65,21 @@ abbrev pub is_request : FiveTuple → Event → Bool
 is_request tuple (asks other owner request) = is_tuple tuple other
 is_request tuple _ = false
 
--- the only happenings after which a flow is looked up again: the caller ends what its socket is
--- for, or all of its user; or a request of its client is accepted
+-- The only happenings after which a flow must be looked up again: the caller ends the relayed
+-- address or all of its user, or a request of its client succeeds
 abbrev pub is_change : FiveTuple → (user number : ℕ) → Happening → Bool
 is_change tuple user number h =
     is_ended user number h.event || (is_request tuple h.event && not (is_refusal h.output))
 
--- none of them has come since
+-- none of them has happened since
 abbrev pub IsLeft : Setup → FiveTuple → (user number : ℕ) → (later earlier : List Timed) → Type 0
 IsLeft setup tuple user number [] earlier = Unit {0}
 IsLeft setup tuple user number (timed ∷ later) earlier =
     (is_change tuple user number (happening setup (run setup (later ++ earlier)) timed) ≡ false)
     × IsLeft setup tuple user number later earlier
 
--- the end of a flow is the least of the ends of what is kept: the client's relayed address, the
--- channel with this number to this peer, and the permission of the peer's IP address
+-- The end of a flow is the first of three ends in the state: that of the client's relayed address,
+-- of the channel with this number and peer, and of the permission for the peer's IP address
 abbrev pub IsFirstEnd : FiveTuple → (channel : ℕ) → Flow → State → Type 0
 IsFirstEnd tuple channel flow state =
     SomeOf (λ a. (a.tuple ≡ tuple) × (a.number ≡ flow.number)

@@ -1,5 +1,5 @@
--- What is fit to be granted, and what is granted (RFC 8656, sections 7.2, 8.2, 9, 10.2 and 12.2),
--- in terms of the request and of the state when it comes.
+-- Which requests are fit, and what a fit request is granted (RFC 8656, sections 7.2, 8.2, 9, 10.2
+-- and 12.2), in terms of the request and the state when it arrives.
 use Rattle.std.specs.Prelude.{Bool, not, ◌&&◌, if◌then◌else◌, map, filter, ◌==◌, ◌≡◌, ◌≢◌, ℕ, ◌+◌, ◌<◌, ◌≤◌, ◌⊎◌, true, false, List, [], ◌∷◌, length, count_by, find, Option, None, Some, nat_lt}
 use Rattle.std.specs.List.{AllByRecursion, list_any}
 use Rattle.stun_endpoints.specs.declared.endpoints.Ip.{Ip}
@@ -12,7 +12,8 @@ use Rattle.turn_machine.specs.Events.{Offer, Want, Given, Missing, allocated, re
 use Rattle.turn_machine.specs.Steps.{Step}
 use Rattle.turn_machine.specs.Rows.{permissions_after, with_channel}
 
--- ---- Words of the laws, apart from the machine's: by equality alone
+-- ---- Words of the laws. They compare by equality, apart from the machine's tests: if a law used
+-- those, a test that is always false could make its premises empty, and the law would say nothing
 
 abbrev pub is_clients : FiveTuple → Relay → Bool
 is_clients tuple a = is_tuple tuple a.tuple
@@ -26,7 +27,8 @@ is_by user a = a.user == user
 abbrev pub is_clients_by : FiveTuple → (user : ℕ) → Relay → Bool
 is_clients_by tuple user a = is_tuple tuple a.tuple && (a.user == user)
 
--- the 5-tuple has no allocation; it has one; it has a relayed address of a family; or none
+-- The 5-tuple has no allocation; it has one; it has a relayed address of a family; it has none of
+-- that family
 abbrev pub IsFree : FiveTuple → State → Type 0
 IsFree tuple state = AllByRecursion (λ a. is_clients tuple a ≡ false) state.relays
 
@@ -39,7 +41,7 @@ HasOf tuple family state = SomeOf (λ a. is_clients_in tuple family a ≡ true) 
 abbrev pub LacksOf : FiveTuple → (family : ℕ) → State → Type 0
 LacksOf tuple family state = AllByRecursion (λ a. is_clients_in tuple family a ≡ false) state.relays
 
--- it has one, and of this user (5)
+-- The 5-tuple has an allocation, and it belongs to this user (5)
 pub record IsOwn (tuple : FiveTuple) (user : ℕ) (state : State) : Type 0 where
   pub has : Has tuple state
   pub his : AllByRecursion (λ a. is_clients tuple a ≡ true → a.user ≡ user) state.relays
@@ -63,9 +65,9 @@ pub record IsFit (setup : Setup) (tuple : FiveTuple) (user : ℕ) (want : Want) 
 abbrev pub given_of : Relay → Given
 given_of a = record { family = a.family; number = a.number; address = a.address }
 
--- one relayed address more, and nothing else: of this client, user and request, for this family,
--- with the socket that was ready, until this moment, without permissions and channels, under a
--- new number
+-- One more relayed address, and nothing else changes: for this client, user and request, of this
+-- family, with the caller's socket, until this moment, with no permissions and no channels, under a
+-- number that was never given before
 pub record IsOpened (tuple : FiveTuple) (user id until family : ℕ) (offer : Offer)
     (old new : State) (a : Relay) : Type 0 where
   pub relays : new.relays ≡ a ∷ old.relays
@@ -79,17 +81,17 @@ pub record IsOpened (tuple : FiveTuple) (user id until family : ℕ) (offer : Of
 
 -- ---- The other requests
 
--- a channel is bound to this peer by another number, or by this number to another peer (12.2)
+-- The number is bound to another peer, or the peer to another number (12.2)
 pub record IsClash (now number : ℕ) (peer : Endpoint) (c : Channel) : Type 0 where
   pub live : now < c.until
   pub other : ((c.number ≡ number) × (c.peer ≢ peer)) ⊎ ((c.peer ≡ peer) × (c.number ≢ number))
 
--- in no family the client's
+-- in neither family of the client
 abbrev pub IsFreeChannel : FiveTuple → (number : ℕ) → Endpoint → State → Type 0
 IsFreeChannel tuple number peer state = AllByRecursion (λ a. is_clients tuple a ≡ true
     → AllByRecursion (λ c. ¬ (IsClash state.clock number peer c)) a.channels) state.relays
 
--- the family that a Refresh request names, if it names one
+-- The client has the family that a Refresh request names, if it names one
 abbrev pub IsCovered : FiveTuple → (family : Option ℕ) → State → Type 0
 IsCovered tuple None state = Unit {0}
 IsCovered tuple (Some family) state = HasOf tuple family state
@@ -112,18 +114,18 @@ pub record CanBind (setup : Setup) (rules : Rules) (tuple : FiveTuple) (user num
   pub room : AllByRecursion (λ a. is_clients_by tuple user a ≡ true → a.family ≡ peer.ip.family
       → length (with_channel state.clock number peer a.channels) ≤ setup.most_channels) state.relays
 
--- ---- What the client has afterwards
+-- ---- The client's state afterwards
 
--- its relayed address of a family
+-- the client's relayed address of a family
 abbrev pub relay_of : FiveTuple → (family : ℕ) → State → Option Relay
 relay_of tuple family state = find (is_clients_in tuple family) state.relays
 
--- of every other client, all is as before
+-- The relayed addresses of all other clients are unchanged
 abbrev pub OthersStay : FiveTuple → (old new : State) → Type 0
 OthersStay tuple old new = (other : FiveTuple) (family : ℕ) → other ≢ tuple
     → relay_of other family new ≡ relay_of other family old
 
--- whether a permission of an IP address is live at a moment
+-- whether a permission for an IP address is live at a moment
 abbrev pub permits_at : (now : ℕ) → Ip → Relay → Bool
 permits_at now ip a = list_any (λ p. is_ip ip p.ip && nat_lt now p.until) a.permissions
 
@@ -131,14 +133,14 @@ permits_at now ip a = list_any (λ p. is_ip ip p.ip && nat_lt now p.until) a.per
 abbrev pub channel_at : (now number : ℕ) → Relay → Option Channel
 channel_at now number a = find (λ c. (c.number == number) && nat_lt now c.until) a.channels
 
--- a permission from a moment on, for 300 seconds exactly
+-- a permission that lasts exactly 300 seconds from a moment on
 pub record IsPermittedFrom (tuple : FiveTuple) (peer : Endpoint) (now : ℕ) (state : State) : Type 0
   where
     pub relay : Relay
     pub is : relay_of tuple peer.ip.family state ≡ Some relay
     pub lasts : (m : ℕ) → now ≤ m → permits_at m peer.ip relay ≡ nat_lt m (now + seconds 300)
 
--- a channel, for 600 seconds exactly
+-- a channel that lasts exactly 600 seconds from a moment on
 pub record IsBoundFrom (tuple : FiveTuple) (number : ℕ) (peer : Endpoint) (now : ℕ) (state : State)
     : Type 0 where
   pub relay : Relay
@@ -148,12 +150,12 @@ pub record IsBoundFrom (tuple : FiveTuple) (number : ℕ) (peer : Endpoint) (now
       ≡ Some (record { number = number; peer = peer; until = now + seconds 600 })
   pub ends : (m : ℕ) → now + seconds 600 ≤ m → channel_at m number relay ≡ None
 
--- a Refresh request is for this family, or for all
+-- whether a Refresh request is for a family: for one, or for all
 abbrev pub IsFor : (wanted : Option ℕ) → (family : ℕ) → Type 0
 IsFor None family = Unit {0}
 IsFor (Some wanted) family = wanted ≡ family
 
--- the relayed address of a family lasts until a moment; it is gone, and its socket is reported
+-- The relayed address of a family lasts until a moment; or it has ended, and its number is reported
 abbrev pub LastsUntil : FiveTuple → (family until : ℕ) → (old new : State) → Type 0
 LastsUntil tuple family until old new = (a : Relay) → relay_of tuple family old ≡ Some a
     → relay_of tuple family new ≡ Some (record a { until = until })
@@ -164,7 +166,7 @@ pub record IsGone (tuple : FiveTuple) (family : ℕ) (old new : State) (closes :
     pub reported : (a : Relay) → relay_of tuple family old ≡ Some a
         → SomeOf (λ n. n ≡ a.number) closes
 
--- a Refresh request is granted this many seconds
+-- A Refresh request is granted this many seconds
 pub record IsRefreshed (tuple : FiveTuple) (wanted : Option ℕ) (granted : ℕ) (old : State)
     (s : Step) : Type 0 where
   pub output : s.output ≡ answers tuple (refreshed granted)
@@ -189,17 +191,18 @@ pub record IsBound (tuple : FiveTuple) (number : ℕ) (peer : Endpoint) (old : S
 
 -- ---- An Allocate request that comes again
 
--- what a success response lists: each relayed address of the client
+-- The success response lists each relayed address of the client
 abbrev pub all_given : FiveTuple → State → List Given
 all_given tuple state = map given_of (filter (is_clients tuple) state.relays)
 
--- and of each family that it asks for in vain the reason: 440 if the server lacks the family
+-- and each family that was asked for and that the client has no address of, with the reason: 440 if
+-- the server lacks the family, else 508
 abbrev pub all_missing : Setup → FiveTuple → List Want → State → List Missing
 all_missing setup tuple wants state =
     map (λ w. record { family = w.family; code = if setup.has_family w.family then 508 else 440 })
     (filter (λ w. not (list_any (is_clients_in tuple w.family) state.relays)) wants)
 
--- it changes nothing. Its lifetime is the whole seconds until the first of these addresses ends
+-- The state is unchanged. The lifetime is the whole seconds until the first of these addresses ends
 pub record IsRepeated (setup : Setup) (tuple : FiveTuple) (wants : List Want) (old : State) (s : Step)
     : Type 0 where
   pub kept : s.state ≡ old

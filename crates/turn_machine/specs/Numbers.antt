@@ -1,4 +1,4 @@
--- The numbers of sockets over runs: given once, and closed once.
+-- The numbers of sockets over whole runs: each is given once, and closed once.
 use Rattle.std.specs.Prelude.{◌≡◌, ℕ, List, [], ◌∷◌, ◌++◌, count_by, ◌==◌}
 use Rattle.stun_endpoints.specs.declared.endpoints.FiveTuple.{FiveTuple}
 use Rattle.turn_machine.specs.Lists.{SomeOf}
@@ -6,12 +6,12 @@ use Rattle.turn_machine.specs.Relays.{State}
 use Rattle.turn_machine.specs.Events.{Given, Missing, Output, answers, allocated}
 use Rattle.turn_machine.specs.Runs.{Happening}
 
--- all the sockets that were reported so far
+-- all numbers that were reported as closed so far
 abbrev pub all_closed : List Happening → List ℕ
 all_closed [] = []
 all_closed (h ∷ earlier) = h.closes ++ all_closed earlier
 
--- how many live relayed addresses have a number
+-- how many relayed addresses in the state have a number
 abbrev pub kept_times : (number : ℕ) → State → ℕ
 kept_times number state = count_by (λ a. a.number == number) state.relays
 

@@ -1,4 +1,5 @@
--- What an Allocate request opens (RFC 8656, section 7.2): of its wants, each that can be met.
+-- What an Allocate request opens (RFC 8656, section 7.2): a relayed address for each of its wants
+-- that can be met.
 use Rattle.std.specs.Prelude.{ℕ, ◌+◌, Bool, not, ◌&&◌, List, [], ◌∷◌, map, filter, max, if◌then◌else◌}
 use Rattle.std.specs.List.{list_any}
 use Rattle.std.specs.Option.{option_map_or}
@@ -6,7 +7,7 @@ use Rattle.stun_endpoints.specs.declared.endpoints.FiveTuple.{FiveTuple}
 use Rattle.turn_machine.specs.Relays.{Relay, Setup, State, is_of, is_for, has_room, has_quota}
 use Rattle.turn_machine.specs.Events.{Offer, Want, Given, Missing, Answer, allocated}
 
--- the number of a socket is above all that were given before
+-- The number of a socket is greater than all that were given before
 abbrev pub number_for : State → Offer → ℕ
 number_for state offer = max state.next offer.number
 
@@ -50,8 +51,8 @@ opens setup tuple user id until [] state = state
 opens setup tuple user id until (want ∷ wants) state =
     opens setup tuple user id until wants (opens_one setup tuple user id until want state)
 
--- ---- The success response: what the client has now, and why it has nothing else of what it wants.
--- A request that comes again asks for the same, so this is the answer to it too
+-- ---- The success response: the relayed addresses that the client now has, and for each family
+-- that it has none of the reason. A request that comes again gets the same response
 
 abbrev pub given_to : FiveTuple → State → List Given
 given_to tuple state =

@@ -1,10 +1,10 @@
--- Who asks, over runs (RFC 8656, section 5).
+-- The users of a run's requests (RFC 8656, section 5).
 use Rattle.std.specs.Prelude.{◌≡◌, ℕ, true, List, ◌==◌}
 use Rattle.std.specs.List.{AllByRecursion, list_any}
 use Rattle.turn_machine.specs.Events.{Event, asks}
 use Rattle.turn_machine.specs.Runs.{Timed}
 
--- the user of a request is so
+-- if the event is a request, its user satisfies Who
 abbrev pub IsBy : (ℕ → Type 0) → Event → Type 0
 IsBy Who (asks tuple user request) = Who user
 IsBy Who _ = Unit {0}

@@ -1,6 +1,6 @@
--- Which code refuses a request (RFC 8656, sections 5, 7.2, 8.2, 10.2 and 12.2), each in terms of
--- the request and of the state when it comes. If several apply, the order is that of the
--- sections.
+-- Which code refuses a request (RFC 8656, sections 5, 7.2, 8.2, 10.2 and 12.2), for each code in
+-- terms of the request and the state when it arrives. If several apply, the first in the order of
+-- these sections does.
 use Rattle.std.specs.Prelude.{◌==◌, ◌≡◌, ℕ, ◌<◌, ◌≤◌, ◌⊎◌, ◌↔◌, true, false, List, [], ◌∷◌, length, count_by, Option, None, Some, not, ◌&&◌, nat_lt, ◌+◌, Bool, filter}
 use Rattle.std.specs.List.{AllByRecursion, list_any}
 use Rattle.stun_endpoints.specs.declared.endpoints.Endpoint.{Endpoint}
@@ -19,29 +19,29 @@ abbrev pub IsRefused : Setup → Rules → State → (now : ℕ) → FiveTuple �
 IsRefused setup rules state now tuple user request code =
     (step setup rules state now (asks tuple user request)).output ≡ answers tuple (refused code)
 
--- a request is refused with a code exactly if this is so
+-- The request is refused with the code if and only if Reason holds
 abbrev pub IsRefusedIff : Setup → Rules → State → (now : ℕ) → FiveTuple → (user : ℕ) → Request
     → (code : ℕ) → Type 0 → Type 0
 IsRefusedIff setup rules state now tuple user request code Reason =
     IsRefused setup rules state now tuple user request code ↔ Reason
 
--- ---- Section 5: whose the allocation is
+-- ---- Section 5: the owner of the allocation
 
 -- the 5-tuple has an allocation of another user
 abbrev pub IsOfAnother : FiveTuple → (user : ℕ) → State → Type 0
 IsOfAnother tuple user state =
     SomeOf (λ a. (is_clients tuple a ≡ true) × (is_by user a ≡ false)) state.relays
 
--- ---- Section 7.2, for a 5-tuple that has no allocation
+-- ---- Section 7.2, if the 5-tuple has no allocation
 
--- the server has no family that is asked for
+-- the server supports none of the families
 abbrev pub HasNoFamily : Setup → List Want → Type 0
 HasNoFamily setup wants = AllByRecursion (λ w. setup.has_family w.family ≡ false) wants
 
 abbrev pub HasFamily : Setup → List Want → Type 0
 HasFamily setup wants = SomeOf (λ w. setup.has_family w.family ≡ true) wants
 
--- the caller has no socket ready for any family that the server has
+-- the caller has no socket for any of the families that the server supports
 abbrev pub IsUnready : Setup → List Want → Type 0
 IsUnready setup wants =
     AllByRecursion (λ w. setup.has_family w.family ≡ true → w.ready ≡ None) wants
@@ -59,7 +59,7 @@ pub record IsUnable (setup : Setup) (tuple : FiveTuple) (user : ℕ) (wants : Li
   pub quota : IsBelowQuota setup user state
   pub lacks : (setup.most_relays ≤ length state.relays) ⊎ IsUnready setup wants
 
--- ---- Sections 8.2, 10.2 and 12.2, for an allocation of the user's own
+-- ---- Sections 8.2, 10.2 and 12.2, for the user's own allocation
 
 abbrev pub IsUncovered : FiveTuple → (family : Option ℕ) → State → Type 0
 IsUncovered tuple None state = ⊥
@@ -87,7 +87,7 @@ LacksChannels setup tuple user number peer state =
     SomeOf (λ a. (is_clients_by tuple user a ≡ true) × (a.family ≡ peer.ip.family)
     × (setup.most_channels < length (with_channel state.clock number peer a.channels))) state.relays
 
--- the number is no channel's, or bound to another peer, or the peer to another number
+-- The number is out of range, or bound to another peer, or the peer is bound to another number
 abbrev pub IsBadNumber : Setup → FiveTuple → (number : ℕ) → Endpoint → State → Type 0
 IsBadNumber setup tuple number peer state =
     (number < 0x4000) ⊎ (setup.last_channel < number)
@@ -100,14 +100,14 @@ IsGoodNumber setup tuple number peer state =
 
 -- ---- The codes of each request
 
--- a request that is refused is refused with one of these
+-- if the request is refused, it is with one of these codes
 abbrev pub IsRefusedOnly : Setup → Rules → State → (now : ℕ) → FiveTuple → (user : ℕ) → Request
     → List ℕ → Type 0
 IsRefusedOnly setup rules state now tuple user request codes = (code : ℕ)
     → (step setup rules state now (asks tuple user request)).output ≡ answers tuple (refused code)
     → list_any (λ c. c == code) codes ≡ true
 
--- a request of this user that opened the allocation, and comes again
+-- this user opened the allocation by a request with this transaction ID
 abbrev pub IsAgain : FiveTuple → (user id : ℕ) → State → Type 0
 IsAgain tuple user id state =
     SomeOf (λ a. (is_clients_by tuple user a ≡ true) × (a.opened_by ≡ id)) state.relays
@@ -177,7 +177,8 @@ pub record BindRefusals (setup : Setup) (rules : Rules) (state : State) (now : �
   pub no_other : IsRefusedOnly setup rules state now tuple user (bind number peer)
       (437 ∷ 441 ∷ 400 ∷ 443 ∷ 403 ∷ 508 ∷ [])
 
--- a request that is unfit by its bytes has its code, if the 5-tuple is in order
+-- A request that its bytes make unfit is refused with its own code, once the checks of the 5-tuple
+-- and the user pass
 pub record UnfitRefusals (setup : Setup) (rules : Rules) (state : State) (now : ℕ)
     (tuple : FiveTuple) (user code : ℕ) : Type 0 where
   pub in_use : Has tuple (at now state)
@@ -191,13 +192,13 @@ pub record UnfitRefusals (setup : Setup) (rules : Rules) (state : State) (now : 
   pub other : IsOwn tuple user (at now state)
       → IsRefused setup rules state now tuple user (unfit code) code
 
--- ---- Room for permissions and channels: what isn't over, and isn't asked for again, and what is
--- asked for
+-- ---- What counts for the limits of permissions and channels: those that are asked for, and those
+-- that are live and aren't asked for again
 
 abbrev pub is_left : ℕ → List Endpoint → Permission → Bool
 is_left now peers p = nat_lt now p.until && not (list_any (λ peer. is_ip peer.ip p.ip) peers)
 
--- of a relayed address, if peers of its family are named, and if none is
+-- for one relayed address, if the request names peers of its family, and if it names none
 pub record IsRoomByLive (now : ℕ) (peers : List Endpoint) (a : Relay) : Type 0 where
   pub some : (first : Endpoint) (more : List Endpoint)
       → filter (λ peer. peer.ip.family == a.family) peers ≡ first ∷ more

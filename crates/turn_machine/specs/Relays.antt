@@ -1,6 +1,6 @@
--- What a TURN server keeps (RFC 8656, sections 6, 9 and 12): relayed addresses, and only those
--- whose time isn't over. An allocation is the one or two relayed addresses of a 5-tuple: one of a
--- family. Moments are nanoseconds from the beginning of the caller's clock.
+-- The state of a TURN server (RFC 8656, sections 6, 9 and 12): its relayed addresses that haven't
+-- expired. An allocation is the one or two relayed addresses of a 5-tuple, at most one of each
+-- family. All moments are nanoseconds of the caller's clock, from its start.
 use Rattle.std.specs.Prelude.{ℕ, ◌*◌, Bool, ◌&&◌, List, length, count_by, nat_lt, ◌==◌}
 use Rattle.std.specs.List.{list_any}
 use Rattle.stun_endpoints.specs.declared.endpoints.Ip.{Ip}
@@ -20,8 +20,8 @@ pub record Channel : Type 0 where
   pub peer : Endpoint
   pub until : ℕ
 
--- a relayed address: the client and the user that asked for it, and by which transaction; its
--- family; the number of its socket, and the socket's address; the moment at which it ends
+-- A relayed address: the client and the user that asked for it, and the transaction ID of the
+-- request; its family; the number and the address of its socket; and the moment at which it ends
 pub record Relay : Type 0 where
   pub tuple : FiveTuple
   pub user : ℕ
@@ -33,10 +33,10 @@ pub record Relay : Type 0 where
   pub permissions : List Permission
   pub channels : List Channel
 
--- what the caller sets once: how many relayed addresses there are at most, and of one user; how
--- many permissions and channels of each; the greatest lifetime, in seconds; the greatest channel
--- number, 0x4FFF, or 0x7FFF for clients of RFC 5766; the families that the server has; whether it
--- can send with the bit DF, and passes ICMP on
+-- Set once, by the caller: the most relayed addresses, in all and for one user; the most
+-- permissions and channels of each; the greatest lifetime, in seconds; the last channel number,
+-- which is 0x4FFF, or 0x7FFF to serve clients of RFC 5766; the families that the server supports;
+-- whether it can set the DF bit, and whether it relays ICMP
 pub record Setup : Type 0 where
   pub most_relays : ℕ
   pub most_of_user : ℕ
@@ -48,19 +48,20 @@ pub record Setup : Type 0 where
   pub supports_dont_fragment : Bool
   pub passes_icmp : Bool
 
--- the rules that are in force at an event: with which IP addresses clients may exchange data, and
--- to which of their ports they may send
+-- The rules in force at an event: the IP addresses with which clients may exchange data, and the
+-- transport addresses to which they may send
 pub record Rules : Type 0 where
   pub allows_ip : Ip → Bool
   pub allows_port : Endpoint → Bool
 
--- the latest moment of an event; the least number for the next socket; and the relayed addresses
+-- the latest moment of any event; a lower bound of the next socket's number; and the relayed
+-- addresses
 pub record State : Type 0 where
   pub clock : ℕ
   pub next : ℕ
   pub relays : List Relay
 
--- ---- Whose a relayed address is
+-- ---- The owner of a relayed address
 
 abbrev pub is_live : ℕ → Relay → Bool
 is_live now a = nat_lt now a.until
@@ -80,7 +81,8 @@ is_owned tuple user a = is_of tuple a && is_users user a
 abbrev pub is_at : (number : ℕ) → Relay → Bool
 is_at number a = a.number == number
 
--- ---- Room and quota (sections 5 and 7.2): what is kept is live
+-- ---- Room and quota (5 and 7.2). The state has only what is live, so what has expired doesn't
+-- count
 
 abbrev pub has_room : Setup → State → Bool
 has_room setup state = nat_lt (length state.relays) setup.most_relays
@@ -90,7 +92,7 @@ has_quota setup user state = nat_lt (count_by (is_users user) state.relays) setu
 
 -- ---- Permissions and channels
 
--- ports don't count (section 9)
+-- ports are not considered (9)
 abbrev pub is_permission : ℕ → Ip → Permission → Bool
 is_permission now ip p = is_ip ip p.ip && nat_lt now p.until
 

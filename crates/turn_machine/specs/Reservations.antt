@@ -1,4 +1,4 @@
--- What a reservation is (RFC 8656, sections 7.2 and 18.10), in words apart from those of the machine.
+-- What a reservation is (RFC 8656, sections 7.2 and 18.10), in the laws' own words.
 use Rattle.std.specs.Prelude.{◌≡◌, ℕ, ◌+◌, ◌<◌, ◌==◌, ◌&&◌, List, filter, find, count_by, nat_lt, Option}
 use Rattle.stun_endpoints.specs.declared.endpoints.FiveTuple.{FiveTuple}
 use Rattle.stun_endpoints.specs.Endpoints.{is_tuple}
@@ -10,22 +10,22 @@ use Rattle.turn_machine.specs.Reserving.{Reservation}
 abbrev pub live_at : (now : ℕ) → List Reservation → List Reservation
 live_at now held = filter (λ r. nat_lt now r.until) held
 
--- those of a user, and whether there are fewer than the quota
+-- how many a user has, and whether that is below the quota
 abbrev pub count_of : (user : ℕ) → List Reservation → ℕ
 count_of user held = count_by (λ r. r.user == user) held
 
 abbrev pub IsBelowQuota : Setup → (user : ℕ) → List Reservation → Type 0
 IsBelowQuota setup user held = count_of user held < setup.most_of_user
 
--- the reservation with a token, if it is this user's
+-- the reservation with a token, if it belongs to the user
 abbrev pub held_for : (user token : ℕ) → List Reservation → Option Reservation
 held_for user token held = find (λ r. (r.token == token) && (r.user == user)) held
 
--- the reservation that a request of a client made, by its transaction
+-- the reservation that a client's request made, by its transaction ID
 abbrev pub made_by : FiveTuple → (id : ℕ) → List Reservation → Option Reservation
 made_by tuple id held = find (λ r. is_tuple tuple r.tuple && (r.id == id)) held
 
--- this request of this user reserved this socket for 30 seconds, under this token
+-- this user's request reserved this socket for 30 seconds, with this token
 pub record IsReserved (now : ℕ) (tuple : FiveTuple) (user id : ℕ) (want : Want) (offer : Offer)
     (token : ℕ) (r : Reservation) : Type 0 where
   pub token_is : r.token ≡ token

@@ -1,7 +1,8 @@
--- EVEN-PORT with its bit and RESERVATION-TOKEN (RFC 8656, sections 7.2, 18.7 and 18.10), over the
--- machine: each is an Allocate request of the machine, with the socket that was reserved, or with
--- none. (EVEN-PORT without the bit is the caller's choice of a socket.) A server that has this
--- option off takes both attributes for unknown ones.
+-- EVEN-PORT with its R bit, and RESERVATION-TOKEN (RFC 8656, sections 7.2, 18.7 and 18.10), as a
+-- layer above the machine. An Allocate request with either is an Allocate request of the machine:
+-- with a socket if the pair of ports or the reserved socket is there, without one otherwise.
+-- (EVEN-PORT without the bit only limits which socket the caller offers.) A server without this
+-- layer treats both attributes as unknown.
 use Rattle.std.specs.Prelude.{ℕ, ◌+◌, Bool, true, false, not, ◌&&◌, ◌==◌, if◌then◌else◌, List, [], ◌∷◌, map, filter, find, count_by, max, nat_lt, Option, None, Some, is_some}
 use Rattle.std.specs.Option.{option_map_or}
 use Rattle.stun_endpoints.specs.declared.endpoints.FiveTuple.{FiveTuple}
@@ -13,7 +14,7 @@ use Rattle.turn_machine.specs.Rows.{has_any}
 use Rattle.turn_machine.specs.Steps.{Step, step}
 use Rattle.turn_machine.specs.Runs.{Timed, initial_state}
 
--- a socket that is held for a user: the token, the request that it was reserved by, and until when
+-- A reserved socket: its token, the user and the request that reserved it, and until when
 pub record Reservation : Type 0 where
   pub token : ℕ
   pub user : ℕ
@@ -27,9 +28,8 @@ pub record OuterState : Type 0 where
   pub state : State
   pub held : List Reservation
 
--- what comes: an event of the machine; an Allocate request that reserves the next higher port,
--- with the socket that the caller has for it, and the random token that it would get; or one with
--- a token
+-- An event of the machine; an Allocate request that reserves the next higher port, with the
+-- caller's socket for that port and the random token for it; or an Allocate request with a token
 pub data Outer : Type 0 where
   plain : Event → Outer
   reserves : FiveTuple → (user id : ℕ) → (lifetime : Option ℕ) → Want → (next : Option Offer)
@@ -45,15 +45,16 @@ held_at now h = filter (is_held (max h.state.clock now)) h.held
 abbrev pub is_users_held : (user : ℕ) → Reservation → Bool
 is_users_held user r = r.user == user
 
--- a token is its user's alone
+-- A token serves only the user that reserved it. Section 7.2 accepts it from any 5-tuple, and says
+-- nothing of users
 abbrev pub is_claim : (user token : ℕ) → Reservation → Bool
 is_claim user token r = (r.token == token) && is_users_held user r
 
 abbrev pub is_token : (token : ℕ) → Reservation → Bool
 is_token token r = r.token == token
 
--- the pair is there, and the user has reserved fewer than the quota (the reservations of a user
--- don't grow with its requests)
+-- The pair of ports is there, and the user has fewer reservations than the quota. Without that
+-- limit a user could hold any number of sockets by allocating in a loop
 abbrev pub can_reserve : Setup → (user : ℕ) → (next : Option Offer) → List Reservation → Bool
 can_reserve setup user next held =
     is_some next && nat_lt (count_by (is_users_held user) held) setup.most_of_user
@@ -67,7 +68,7 @@ pair_want setup user want next held = record {
 abbrev pub reserved_want : Reservation → Want
 reserved_want r = record { family = r.family; ready = Some r.offer }
 
--- a token that isn't valid is a request without a socket: 508
+-- A token that isn't valid is a request with no socket: 508 (7.2)
 abbrev pub no_want : Setup → FiveTuple → State → Want
 no_want setup tuple state = record {
   family = option_map_or (λ a. a.family) (find (is_of tuple) state.relays)
@@ -79,7 +80,7 @@ abbrev pub claimed_want : Setup → FiveTuple → (user token : ℕ) → State �
 claimed_want setup tuple user token state held =
     option_map_or reserved_want (find (is_claim user token) held) (no_want setup tuple state)
 
--- the event of the machine that it is
+-- the machine's event
 abbrev pub inner : Setup → State → List Reservation → Outer → Event
 inner setup state held (plain event) = event
 inner setup state held (reserves tuple user id lifetime want next token) =
@@ -87,7 +88,8 @@ inner setup state held (reserves tuple user id lifetime want next token) =
 inner setup state held (claims tuple user id lifetime token) =
     asks tuple user (allocate id lifetime (claimed_want setup tuple user token state held ∷ []))
 
--- whether a request opens an allocation: there was none, and it succeeds
+-- whether the request opens an allocation: there was none, and it succeeds. Only then is a socket
+-- reserved, or a reservation used up: a refused Allocate request reserves nothing
 abbrev pub is_success : Output → Bool
 is_success (answers tuple (allocated given lifetime missing)) = true
 is_success _ = false
@@ -95,7 +97,7 @@ is_success _ = false
 abbrev pub is_opening : FiveTuple → State → Output → Bool
 is_opening tuple state output = not (has_any tuple state) && is_success output
 
--- for 30 seconds
+-- for 30 seconds (7.2)
 abbrev pub reserved_by : (now : ℕ) → FiveTuple → (user id : ℕ) → Want → Offer → (token : ℕ)
     → Reservation
 reserved_by now tuple user id want offer token = record {
@@ -122,8 +124,8 @@ held_after setup state (reserves tuple user id lifetime want next token) output 
 held_after setup state (claims tuple user id lifetime token) output held =
     if is_opening tuple state output then filter (λ r. not (is_token token r)) held else held
 
--- the token of a success response: that of the reservation by this very request, also if it comes
--- again
+-- The token in a success response is that of the reservation which this very request made, also if
+-- it comes again
 abbrev pub is_reserved_by : FiveTuple → (id : ℕ) → Reservation → Bool
 is_reserved_by tuple id r = is_tuple tuple r.tuple && (r.id == id)
 
@@ -134,8 +136,8 @@ token_for (reserves tuple user id lifetime want next token) output held =
     then option_map_or (λ r. Some r.token) (find (is_reserved_by tuple id) held) None else None
 token_for (claims tuple user id lifetime token) output held = None
 
--- a step: the machine's; what is held after it, the token of the response, and the tokens whose
--- time is over, so that the caller can close their sockets
+-- A step: that of the machine; the reservations after it; the token in the response; and the tokens
+-- that have expired, whose sockets the caller closes
 pub record OuterStep : Type 0 where
   pub holding : OuterState
   pub step : Step
@@ -174,7 +176,7 @@ inner_timed setup h t = record {
   event = inner setup (at t.now h.state) (held_at t.now h) t.outer;
 }
 
--- the run of the machine that it is
+-- the machine's run
 abbrev pub inner_run : Setup → List OuterTimed → List Timed
 inner_run setup [] = []
 inner_run setup (t ∷ earlier) =

@@ -1,5 +1,5 @@
--- Why a request is refused, by the first row that applies (RFC 8656, sections 5, 7.2, 8.2, 10.2 and
--- 12.2). What the bytes alone decide (400, 420, 442 and the credentials) was decided before.
+-- Why a request is refused: by the first row that applies (RFC 8656, sections 5, 7.2, 8.2, 10.2 and
+-- 12.2). What the bytes alone decide, as 400, 420, 442 and the credentials, was decided before.
 use Rattle.std.specs.Prelude.{ℕ, ◌+◌, Bool, true, not, ◌&&◌, ◌||◌, List, [], ◌∷◌, length, filter, Option, None, Some, is_some, nat_lt, ◌==◌, if◌then◌else◌}
 use Rattle.std.specs.List.{list_any, list_all}
 use Rattle.std.specs.Option.{option_map_or}
@@ -11,11 +11,11 @@ use Rattle.turn_machine.specs.Relays.{seconds, Permission, Channel, Relay, Setup
 use Rattle.turn_machine.specs.Events.{Want, Request, allocate, unfit_allocate, refresh, permit, bind, unfit}
 use Rattle.turn_machine.specs.Opening.{has_of}
 
--- a row, and those after it
+-- a row, followed by others
 abbrev pub row : Bool → (code : ℕ) → Option ℕ → Option ℕ
 row applies code others = if applies then Some code else others
 
--- ---- Whose the allocation is (5)
+-- ---- The owner of the allocation (5)
 
 abbrev pub has_any : FiveTuple → State → Bool
 has_any tuple state = list_any (is_of tuple) state.relays
@@ -53,7 +53,8 @@ has_wanted tuple family state = option_map_or (λ f. has_of tuple f state) famil
 
 -- ---- CreatePermission (9 and 10.2)
 
--- the permissions with one more, which lasts 300 seconds; the others stay, if they are not over
+-- One more permission, for 300 seconds. It replaces the one for the same IP address, and expired
+-- ones go
 abbrev pub is_other_permission : ℕ → Ip → Permission → Bool
 is_other_permission now ip p = not (is_ip ip p.ip) && nat_lt now p.until
 
@@ -65,7 +66,7 @@ abbrev pub with_permissions : ℕ → List Endpoint → List Permission → List
 with_permissions now [] ps = ps
 with_permissions now (peer ∷ peers) ps = with_permission now peer.ip (with_permissions now peers ps)
 
--- the peers of a relayed address: those of its family
+-- the peers of the relayed address's family
 abbrev pub peers_of : Relay → List Endpoint → List Endpoint
 peers_of a peers = filter (λ peer. peer.ip.family == a.family) peers
 
@@ -87,7 +88,7 @@ permit_rows setup rules state tuple user peers =
 
 -- ---- ChannelBind (12.2)
 
--- the channels with one more, which lasts 600 seconds
+-- One more channel, for 600 seconds. It replaces the one with the same number, and expired ones go
 abbrev pub is_other_channel : ℕ → (number : ℕ) → Channel → Bool
 is_other_channel now number c = not (c.number == number) && nat_lt now c.until
 
@@ -125,7 +126,7 @@ bind_rows setup rules state tuple user number peer =
     (row (list_any (lacks_permissions setup state.clock tuple user (peer ∷ [])) state.relays
     || list_any (lacks_channels setup state.clock tuple user number peer) state.relays) 508 None))))
 
--- ---- All
+-- ---- All requests
 
 abbrev pub fault : Setup → Rules → State → FiveTuple → (user : ℕ) → Request → Option ℕ
 fault setup rules state tuple user (allocate id lifetime wants) =

@@ -1,17 +1,17 @@
--- Whole runs of a server, and what has happened in them, the newest first.
+-- Whole runs of a server, and their happenings, the newest first.
 use Rattle.std.specs.Prelude.{ℕ, List, [], ◌∷◌}
 use Rattle.turn_machine.specs.Relays.{Setup, Rules, State}
 use Rattle.turn_machine.specs.Events.{Event, Output}
 use Rattle.turn_machine.specs.Times.{at}
 use Rattle.turn_machine.specs.Steps.{step}
 
--- an event, the caller's clock at it, and the rules that are in force
+-- an event, the caller's clock when it arrives, and the rules in force
 pub record Timed : Type 0 where
   pub now : ℕ
   pub rules : Rules
   pub event : Event
 
--- an event, when it counts as having come, and what was done
+-- an event, the moment that counts for it, and what was done
 pub record Happening : Type 0 where
   pub moment : ℕ
   pub rules : Rules

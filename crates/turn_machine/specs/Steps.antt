@@ -1,5 +1,5 @@
--- One step of the server: what is kept after an event, what is done, and which sockets are for
--- nothing any more.
+-- One step of the server: the state after an event, the output, and the numbers of the sockets that
+-- the caller closes.
 use Rattle.std.specs.Prelude.{ℕ, ◌+◌, Bool, true, false, not, ◌&&◌, List, [], ◌∷◌, ◌++◌, map, filter, Option, ◌==◌, if◌then◌else◌}
 use Rattle.std.specs.List.{list_any}
 use Rattle.std.specs.Option.{option_map_or}
@@ -17,13 +17,14 @@ pub record Step : Type 0 where
   pub output : Output
   pub closes : List ℕ
 
--- ---- What changes
+-- ---- Changes of the state
 
 abbrev pub changed : FiveTuple → (user : ℕ) → (Relay → Relay) → State → State
 changed tuple user change state =
     record state { relays = map (λ a. if is_owned tuple user a then change a else a) state.relays }
 
--- those that pass a test end: their places are free, and their sockets are to be closed
+-- The relayed addresses that pass a test end: they leave the state, and their sockets are to be
+-- closed
 abbrev pub without : (Relay → Bool) → State → State
 without test state = record state { relays = filter (λ a. not (test a)) state.relays }
 
@@ -34,7 +35,7 @@ closing test output state = record {
   closes = numbers (filter test state.relays);
 }
 
--- a Refresh request is for one family, or for all that the client has (7.3 and 8.2)
+-- A Refresh request is for one family, or for all that the client has (8.2)
 abbrev pub is_wanted : (family : Option ℕ) → Relay → Bool
 is_wanted family a = option_map_or (λ f. a.family == f) family true
 
@@ -51,7 +52,7 @@ binding now number peer a =
       channels = with_channel now number peer a.channels;
     } else a
 
--- ---- Requests that have no fault
+-- ---- Requests that no row refuses
 
 abbrev pub keeping : State → Output → Step
 keeping state output = record { state = state; output = output; closes = [] }
@@ -61,7 +62,7 @@ allocates setup tuple user id lifetime wants state =
     let after = opens setup tuple user id (state.clock + seconds lifetime) wants state in
     keeping after (answers tuple (allocation_answer setup tuple lifetime wants after))
 
--- with 0 it ends at once
+-- with a lifetime of 0 the relayed address ends at once (8.2)
 abbrev pub refreshes : FiveTuple → (user : ℕ) → (family : Option ℕ) → (lifetime : ℕ) → State → Step
 refreshes tuple user family lifetime state =
     if lifetime == 0
@@ -84,7 +85,7 @@ fulfils setup tuple user (unfit code) state = keeping state (answers tuple done)
 
 -- ---- All requests
 
--- an Allocate request that comes again (7.2, the last note)
+-- An Allocate request that comes again, by its transaction ID (7.2, the note on idempotency)
 abbrev pub is_again : FiveTuple → (user : ℕ) → Request → State → Bool
 is_again tuple user (allocate id lifetime wants) state =
     list_any (λ a. is_owned tuple user a && (a.opened_by == id)) state.relays
@@ -125,7 +126,7 @@ happens setup rules state (bounces number peer icmp) =
     keeping state (relayed setup rules state (bounces number peer icmp))
 happens setup rules state ticks = keeping state nothing
 
--- what is over ends first
+-- what has expired ends before the event counts
 abbrev pub step : Setup → Rules → State → ℕ → Event → Step
 step setup rules state now event =
     let s = happens setup rules (at now state) event in

@@ -1,4 +1,4 @@
--- What comes without an authentic request, and what it may change.
+-- Datagrams without an authentic request, and what they may change.
 use Rattle.std.specs.Prelude.{◌≡◌, ℕ, Bool, true, false, List, ◌∷◌, ◌++◌, ◌==◌}
 use Rattle.std.specs.List.{list_any}
 use Rattle.stun_endpoints.specs.Endpoints.{is_tuple}
@@ -10,7 +10,7 @@ use Rattle.turn_machine.specs.Steps.{step}
 use Rattle.turn_machine.specs.Runs.{Timed, Happening, run, happening, history}
 use Rattle.turn_machine.specs.Numbers.{all_closed}
 
--- a datagram that isn't a request of a user: anybody can send it
+-- a datagram that is no request of a user, so anybody can send it
 abbrev pub is_datagram : Event → Bool
 is_datagram (asks tuple user request) = false
 is_datagram (sends tuple peer dont_fragment bytes) = true
@@ -21,7 +21,7 @@ is_datagram (ends number) = false
 is_datagram (ends_user user) = false
 is_datagram ticks = false
 
--- whether there is something that a datagram is for, by where it came from and to
+-- whether any relayed address matches the datagram's addresses
 abbrev pub is_for_some : Event → State → Bool
 is_for_some (sends tuple peer dont_fragment bytes) state =
     list_any (λ a. is_tuple tuple a.tuple) state.relays
@@ -34,13 +34,13 @@ is_for_some (ends number) state = true
 is_for_some (ends_user user) state = true
 is_for_some ticks state = true
 
--- if not, nothing is done
+-- if none does, nothing is done
 abbrev pub IsQuiet : Setup → Rules → State → (now : ℕ) → Event → Type 0
 IsQuiet setup rules state now event = is_for_some event (at now state) ≡ false
     → (step setup rules state now event).output ≡ nothing
 
--- what happens after a datagram of a stranger, as if it had not come: the same is kept and done.
--- The same sockets are reported, those that were over at the datagram with it
+-- All that happens after a stranger's datagram is as if it hadn't come: the same states and
+-- outputs. The same numbers are reported as closed, some of them with the datagram
 pub record IsForgotten (setup : Setup) (later : List Timed) (next stranger : Timed)
     (earlier : List Timed) : Type 0 where
   pub kept : run setup (later ++ next ∷ stranger ∷ earlier) ≡ run setup (later ++ next ∷ earlier)

@@ -4,7 +4,7 @@ use Rattle.std.specs.Option.{option_map_or}
 use Rattle.stun_endpoints.specs.declared.endpoints.FiveTuple.{FiveTuple}
 use Rattle.turn_machine.specs.Relays.{seconds, Relay, State, is_live, is_of}
 
--- the state at a moment, without what is over. A clock that steps back counts as stopped
+-- The state at a moment, without what has expired. A clock that goes back counts as stopped
 abbrev pub at : ℕ → State → State
 at now state = record state {
   clock = max state.clock now;
@@ -14,11 +14,12 @@ at now state = record state {
 abbrev pub numbers : List Relay → List ℕ
 numbers = map (λ a. a.number)
 
--- the sockets of what is over at a moment
+-- the numbers of the sockets that expire by a moment
 abbrev pub over_at : ℕ → State → List ℕ
 over_at now state = numbers (filter (λ a. not (is_live (max state.clock now) a)) state.relays)
 
--- a lifetime in seconds, that is granted to an Allocate request, and to a Refresh request
+-- The lifetime in seconds that an Allocate request is granted (7.2), and a Refresh request (8.2):
+-- the wanted one, but no more than the greatest and no less than the default of 600
 abbrev pub granted_for : Option ℕ → ℕ → ℕ
 granted_for None greatest = 600
 granted_for (Some wanted) greatest = max 600 (min wanted greatest)
@@ -27,7 +28,7 @@ abbrev pub refreshed_for : Option ℕ → ℕ → ℕ
 refreshed_for None greatest = 600
 refreshed_for (Some wanted) greatest = if wanted == 0 then 0 else max 600 (min wanted greatest)
 
--- when the first of a client's relayed addresses ends, and the seconds that are left until then
+-- when the first of a client's relayed addresses ends, and the whole seconds until then
 abbrev pub earlier_of : ℕ → Option ℕ → ℕ
 earlier_of end None = end
 earlier_of end (Some other) = min end other

@@ -1,5 +1,5 @@
--- What warrants that a datagram is relayed, by what has happened before: requests, their answers
--- and their moments, and not what the server keeps.
+-- What warrants that a datagram is relayed, in terms of the events, outputs and moments before it,
+-- and not of the server's state.
 use Rattle.std.specs.Prelude.{◌≡◌, ℕ, ◌+◌, ◌<◌, ◌≤◌, ◌==◌, ◌&&◌, if◌then◌else◌, Bool, true, false, ◌⊎◌, List, [], ◌∷◌, ◌++◌, Option, None, Some}
 use Rattle.std.specs.List.{list_any}
 use Rattle.std.specs.Option.{option_map_or}
@@ -14,8 +14,8 @@ use Rattle.turn_machine.specs.Runs.{Happening}
 
 -- ---- The lifetime of a relayed address
 
--- an Allocate request of this user, from this client, got a relayed address of this family, with
--- the socket of this number
+-- this user's Allocate request from this client was answered with a relayed address of this family,
+-- under this number
 pub record Opens (tuple : FiveTuple) (user family number : ℕ) (h : Happening) : Type 0 where
   pub id : ℕ
   pub lifetime : Option ℕ
@@ -49,14 +49,14 @@ abbrev pub refreshed_to : FiveTuple → (user family : ℕ) → Happening → Op
 refreshed_to tuple user family h =
     if is_refresh tuple user family h.event then refreshed_in h.output else None
 
--- whether the caller ends it
+-- whether the caller ends the relayed address
 abbrev pub is_ended : (user number : ℕ) → Event → Bool
 is_ended user number (ends n) = number == n
 is_ended user number (ends_user u) = user == u
 is_ended user number _ = false
 
--- when it ends: by the newest Refresh request that succeeded since it was opened, and if there is
--- none as it was opened. With 0 it ends at once, and if the caller ends it
+-- The end of a relayed address: by the newest successful Refresh request since it was opened, or
+-- else by the Allocate request. A Refresh with lifetime 0 ends it at once, and so does the caller
 abbrev pub end_of : FiveTuple → (user family number first : ℕ) → List Happening → ℕ
 end_of tuple user family number first [] = first
 end_of tuple user family number first (h ∷ earlier) =
@@ -66,7 +66,7 @@ end_of tuple user family number first (h ∷ earlier) =
 
 -- ---- Permissions and channels
 
--- whether a request names an IP address, and so asks for its permission
+-- whether a request names an IP address, and so asks for a permission for it
 abbrev pub names : Ip → Request → Bool
 names ip (permit peers) = list_any (λ peer. is_ip ip peer.ip) peers
 names ip (bind number peer) = is_ip ip peer.ip
@@ -75,8 +75,8 @@ names ip (unfit_allocate code) = false
 names ip (refresh family lifetime) = false
 names ip (unfit code) = false
 
--- a request of this user, from this client, named this IP address within the last 300 seconds; the
--- rules that were in force then allowed the address, and it succeeded
+-- Within the last 300 seconds a request of this user from this client named this IP address and
+-- succeeded, and the rules then in force allowed the address
 pub record Permits (tuple : FiveTuple) (user : ℕ) (ip : Ip) (now : ℕ) (h : Happening) : Type 0 where
   pub request : Request
   pub asked : h.event ≡ asks tuple user request
@@ -86,7 +86,7 @@ pub record Permits (tuple : FiveTuple) (user : ℕ) (ip : Ip) (now : ℕ) (h : H
   pub came : h.moment ≤ now
   pub lasts : now < h.moment + seconds 300
 
--- one bound this channel to this peer within the last 600 seconds
+-- within the last 600 seconds one bound this channel to this peer
 pub record Binds (tuple : FiveTuple) (user channel : ℕ) (peer : Endpoint) (now : ℕ)
     (h : Happening) : Type 0 where
   pub asked : h.event ≡ asks tuple user (bind channel peer)
@@ -104,8 +104,8 @@ AreBinding tuple channel peer now user since = SomeOf (Binds tuple user channel 
 
 -- ---- Warrants
 
--- an exchange of data between a client and a peer, by a socket, is warranted: what has to be
--- asked for was asked for by the user who opened the allocation, since then
+-- The exchange of data between a client and a peer, through a socket, is warranted: the user opened
+-- the allocation and asked for the exchange since then, and the allocation hasn't ended
 pub record IsWarranted (earlier : List Happening) (now : ℕ) (tuple : FiveTuple) (number : ℕ)
     (peer : Endpoint) (Asked : (user : ℕ) → List Happening → Type 0) : Type 0 where
   pub user : ℕ
@@ -119,9 +119,9 @@ pub record IsWarranted (earlier : List Happening) (now : ℕ) (tuple : FiveTuple
       < end_of tuple user peer.ip.family number (opening.moment + seconds opens.granted) since
   pub asked : Asked user since
 
--- whatever is done is one of these: a response to the client that asked; data to a peer, from the
--- client that sent it; a peer's data, or news of it, to the client whose socket it came to; or
--- nothing. The rules that are in force allow the peer
+-- Each output is one of these: a response to the client that asked; data to a peer, from the client
+-- that sent it; data or ICMP from a peer, to the client that owns the socket; or nothing. The rules
+-- in force allow the peer
 abbrev pub IsRight : Setup → List Happening → (now : ℕ) → Rules → Event → Output → Type 0
 IsRight setup earlier now rules event (answers tuple answer) =
     (user : ℕ) × (request : Request) × (event ≡ asks tuple user request)

@@ -1,5 +1,5 @@
--- When what a client and a peer send has to reach the other, by what has happened before: the
--- converse of a warrant, in the same terms.
+-- When data must reach the other side, in terms of what has happened before: the converse of a
+-- warrant, in the same terms.
 use Rattle.std.specs.Prelude.{◌≡◌, ℕ, ◌<◌, ◌+◌, ◌⊎◌, List, [], ◌∷◌, ◌++◌, Bool, ◌==◌, ◌||◌, if◌then◌else◌}
 use Rattle.stun_endpoints.specs.declared.endpoints.Endpoint.{Endpoint}
 use Rattle.stun_endpoints.specs.declared.endpoints.FiveTuple.{FiveTuple}
@@ -11,15 +11,15 @@ use Rattle.turn_machine.specs.Runs.{Timed, Happening, run}
 use Rattle.turn_machine.specs.Warrants.{Opens, Binds, end_of}
 use Rattle.turn_machine.specs.Numbers.{IsGiven}
 
--- a lifetime was over at none of the things that have happened since
+-- at no happening since had the lifetime expired
 abbrev pub Lasted : FiveTuple → (user family number first : ℕ) → List Happening → Type 0
 Lasted tuple user family number first [] = Unit {0}
 Lasted tuple user family number first (h ∷ earlier) =
     (h.moment < end_of tuple user family number first earlier)
     × Lasted tuple user family number first earlier
 
--- a client has got a relayed address, by the first request that was answered with its number; its
--- lifetime never was over since, and isn't now; and this was asked for since
+-- A client has a relayed address, by the first response with its number; its lifetime never expired
+-- since, and isn't expired now; and what the exchange needs was asked for since
 pub record IsDue (earlier : List Happening) (now : ℕ) (tuple : FiveTuple) (number : ℕ)
     (peer : Endpoint) (Asked : (user : ℕ) → List Happening → Type 0) : Type 0 where
   pub user : ℕ
@@ -35,11 +35,11 @@ pub record IsDue (earlier : List Happening) (now : ℕ) (tuple : FiveTuple) (num
       < end_of tuple user peer.ip.family number (opening.moment + seconds opens.granted) since
   pub asked : Asked user since
 
--- what is done for an event, after a run
+-- the output for an event after a run
 abbrev pub output_of : Setup → List Timed → (now : ℕ) → Rules → Event → Output
 output_of setup earlier now rules event = (step setup rules (run setup earlier) now event).output
 
--- data from a peer reaches the client, by a Data indication or a ChannelData message
+-- A peer's data reaches the client as a Data indication or a ChannelData message
 abbrev pub Reaches : FiveTuple → Endpoint → List ℕ → Output → Type 0
 Reaches tuple peer bytes output =
     (output ≡ to_client tuple peer bytes)
@@ -50,7 +50,7 @@ abbrev pub IsBoundTo : FiveTuple → Endpoint → (now : ℕ) → List Happening
 IsBoundTo tuple peer now earlier =
     SomeOf (λ h. (user : ℕ) × (channel : ℕ) × Binds tuple user channel peer now h) earlier
 
--- the types of ICMP that are passed on (11.5)
+-- the types of ICMP that are relayed (11.5)
 abbrev pub is_reported : (family type_number : ℕ) → Bool
 is_reported family n =
     if family == 1 then (n == 3) || (n == 11) else (n == 1) || ((n == 2) || (n == 3))

@@ -1,4 +1,51 @@
-//! A TURN server as a machine, and its laws. Each function does nothing: its contract is the law.
+//! A TURN server by RFC 8656 as a machine, and fourteen laws that are proved of it: what must never happen,
+//! and what must. There is nothing to run here. Each function has an empty body, and its contract is a law.
+//!
+//! # The machine
+//!
+//! `step` (`specs/Steps.antt`) takes the setup, the rules in force, a state, a moment and an event. It
+//! returns the next state, one output, and the numbers of the sockets that the caller is to close.
+//!
+//! - The state (`Relays`) has the relayed addresses that are live, with their permissions and channels. An
+//!   allocation is the one or two relayed addresses of a 5-tuple. What has expired ends before an event
+//!   counts, and its number is reported at that event.
+//! - An event (`Events`) is an authentic request of a user; a Send indication, ChannelData, a peer's datagram
+//!   or an ICMP packet; the end of a relayed address or of all that a user has, by the caller; or time.
+//! - The rows of `Rows` decide why a request is refused, in order, and `Data` what is relayed.
+//! - `Reserving` is a layer above for EVEN-PORT with its R bit and RESERVATION-TOKEN. `Flows` says which
+//!   channels may be relayed without asking the machine, and until when.
+//!
+//! It follows RFC 8656, sections 5, 6, 7.2, 8.2, 9, 10.2, 11.2, 11.3, 11.5, 12.2, 12.6 and 12.7: one and two
+//! address families, requests that come again, quotas, and the codes 400, 403, 437, 440, 441, 442, 443, 486
+//! and 508.
+//!
+//! # What it is not
+//!
+//! It reads no bytes, checks no credentials, and opens no sockets. A request that its bytes make unfit is an
+//! event with its code (400, 442, or 508 for a CreatePermission request of more than 64 peers); 401, 420 and
+//! 438 are decided before. TTL, DSCP and ECN (13 to 16), the code 300 and anonymous users are not part of it.
+//! The caller offers the sockets, gives no transport address to two of them at once, and closes what is
+//! reported. That a second of the caller's clock is a second, that an indication comes from the client whose
+//! address it has (21.1.4), and who knows a key, no law can say.
+//!
+//! # Choices where the RFC leaves one
+//!
+//! - Room and quota count relayed addresses. So a dual allocation counts as two, and with one place left it
+//!   is met in part, with ADDRESS-ERROR-CODE. 440 precedes 486, and 486 precedes 508.
+//! - A request that comes again is recognised by its user, 5-tuple and transaction ID. It opens nothing.
+//! - The rules are asked at each datagram too, and not only at requests.
+//! - ChannelData to a peer needs its channel, and data from a peer a permission. A channel lasts 600 seconds
+//!   and its permission 300, so a client that refreshes only the channel stops receiving after 300 seconds.
+//! - A token serves only the user that reserved it, and a user has at most as many reservations as its quota.
+//! - Numbers of sockets only grow, so that a late datagram never reaches another client.
+//!
+//! # The words of the laws
+//!
+//! The laws speak of requests, responses and moments in words of their own, which compare by equality. Of the
+//! machine's words they use those that a law determines: `at` and `over_at` (`places_are_for_the_live`),
+//! `seconds`, `granted_for` and `refreshed_for` (`fit_is_granted`), `permissions_after` and `with_channel`
+//! (`refusals_are_exact`), `flow_of` (`flows_are_right`). `wrong-definitions.txt` has wrong machines, each
+//! with the law that refuses it.
 #![tactic(auto)]
 
 ghost use Rattle.std.specs.Prelude.{◌≡◌, ◌↔◌, ◌≢◌, ◌&&◌, ◌<◌, ◌≤◌, ◌⊎◌, ◌*◌, ◌+◌, ◌==◌, ℕ, Bool, List, [], ◌∷◌, ◌++◌, length, map, count_by, filter, not, nat_lt, max, min, Option, None, Some, true, false, if◌then◌else◌};
@@ -30,11 +77,11 @@ ghost use Rattle.turn_machine.specs.FlowCases.{flow_cases};
 ghost use Rattle.turn_machine.specs.Bounds.{IsWithin};
 ghost use Rattle.turn_machine.specs.Numbers.{all_closed, kept_times, Gives, IsGiven};
 
-/// Whatever comes in whatever order: all that is kept is live, so nothing that ended has a place.
-/// Each number that a client was given is that of a live relayed address, or was reported to be
-/// closed; once, and never both. A number is never given a second time, but to the client that
-/// has it and asks again; and nothing comes to a client from a socket that was reported. Before the
-/// first of the ends nothing is due.
+/// After any events in any order, all that the state has is live, so what has ended takes no place. Each
+/// number that a client was given is either that of a live relayed address or was reported as closed, once
+/// and never both. A number is never given again, except to the client that has it and repeats its request,
+/// and nothing reaches a client from a socket that was reported. Exactly what has expired leaves the state
+/// as time passes, and exactly its numbers are reported. A server may skip numbers.
 pub fn places_are_for_the_live()
     ensures live { (setup : Setup) (events : List Timed)
         → AllByRecursion (λ a. (run setup events).clock < a.until) (run setup events).relays }
@@ -63,13 +110,13 @@ pub fn places_are_for_the_live()
         → (step setup rules (run setup events) now (arrives number peer bytes)).output ≡ nothing }
 {}
 
-/// What is fit is granted, exactly, in whatever state. An Allocate request of a 5-tuple without
-/// an allocation, of a user below the quota, with room and a socket, opens one relayed address
-/// more and changes nothing else; so do two families, and of two the one that can be had, with
-/// the reason for the other (440 only if the server hasn't the family, 508 if the caller has no
-/// socket). A Refresh request sets the end, or ends; CreatePermission permits each peer for 300
-/// seconds; ChannelBind binds for 600, and permits for 300. Of other clients all stays. An
-/// Allocate request that comes again is answered with what the client has, and changes nothing.
+/// In every state a fit request is granted exactly what it asks for. An Allocate request from a 5-tuple with
+/// no allocation, by a user below its quota, with room and a socket, opens one relayed address and changes
+/// nothing else; with ADDITIONAL-ADDRESS-FAMILY two, or the one that is possible with the reason for the
+/// other: 440 if the server doesn't support the family, 508 if the caller has no socket for it. A Refresh
+/// request sets the end, or ends what it is for and reports it. CreatePermission permits each peer for 300
+/// seconds; ChannelBind binds for 600 and permits for 300. Other clients' relayed addresses stay as they
+/// are. An Allocate request that comes again is answered with all that the client has, and changes nothing.
 pub fn fit_is_granted()
     ensures one { (setup : Setup) (rules : Rules) (state : State) (now : ℕ) (tuple : FiveTuple)
         (user id : ℕ) (lifetime : Option ℕ) (want : Want) (offer : Offer)
@@ -137,7 +184,9 @@ pub fn fit_is_granted()
         × (0 < wanted → refreshed_for (Some wanted) greatest ≡ max 600 (min wanted greatest)) }
 {}
 
-/// Each code is answered exactly where its reason is so, and no other. What is over takes no room.
+/// Each code is the response if and only if its reason holds, in terms of the request and the state, and no
+/// other code is. What has expired, and what is asked for again, takes no room. A CreatePermission request
+/// of more than 64 peers is unfit with 508. Which other requests are unfit by their bytes is left open.
 pub fn refusals_are_exact()
     ensures allocates { (setup : Setup) (rules : Rules) (state : State) (now : ℕ)
         (tuple : FiveTuple) (user id : ℕ) (lifetime : Option ℕ) (wants : List Want)
@@ -162,11 +211,10 @@ pub fn refusals_are_exact()
         → permit_request peers ≡ unfit 508 }
 {}
 
-/// No user ever has more than the quota. If the quotas of all who ever asked fit into the room,
-/// then whatever anybody does, a user finds as many free places as the quota leaves; an Allocate
-/// request of a user below the quota, from a 5-tuple without an allocation, with a socket that is
-/// ready, is granted; and a 508 says that the caller had no socket for a family that the server
-/// has.
+/// No user ever has more relayed addresses than the quota. If the quotas of all users that ever asked fit
+/// into the room, then whatever anybody does, a user finds as many free places as its quota leaves: a fit
+/// Allocate request of a user below the quota is granted, and a 508 means that the caller had no socket for
+/// any family that the server supports. When the caller has sockets is left open.
 pub fn quotas_protect()
     ensures within { (setup : Setup) (events : List Timed) (user : ℕ)
         → count_by (λ a. a.user == user) (run setup events).relays ≤ setup.most_of_user }
@@ -198,7 +246,8 @@ pub fn quotas_protect()
         → IsUnready setup wants }
 {}
 
-/// Whatever comes in whatever order, what is kept never exceeds its bounds.
+/// After any events in any order, relayed addresses, permissions and channels are within the limits of the
+/// setup.
 pub fn table_is_bounded()
     ensures relays { (setup : Setup) (events : List Timed)
         → length (run setup events).relays ≤ setup.most_relays }
@@ -206,25 +255,25 @@ pub fn table_is_bounded()
         → AllByRecursion (IsWithin setup) (run setup events).relays }
 {}
 
-/// Whatever comes in whatever order, nothing is sent but: a response to the client that asked;
-/// and data between a client and a peer, or news of it, at a moment at which an allocation lives
-/// that this user opened or refreshed from this client, and what it needs was asked for since, by
-/// this user from this client: to a peer by a Send indication, and to a client, a permission of
-/// its IP address, within the last 300 seconds; by ChannelData to a peer, this channel with this
-/// very peer, within the last 600; by ChannelData to a client both. The rules allowed the peer
-/// when it was asked for, and allow it now.
+/// After any events in any order, nothing is sent but responses to the client that asked, and data and ICMP
+/// between a client and a peer that the user of an allocation asked for. At that moment the allocation is
+/// live, by the newest Allocate or Refresh request of this user from this client. Since it was opened, the
+/// user asked from this client for what the relaying needs: a Send indication, and anything to the client,
+/// for a permission for the peer's IP address within the last 300 seconds; ChannelData to a peer for this
+/// channel with this very peer within the last 600; ChannelData to a client for both. The rules allowed the
+/// peer when the user asked, and allow it now. A server that drops data meets this law: the next one is
+/// about that.
 pub fn relaying_is_warranted()
     ensures { (setup : Setup) (earlier : List Timed) (timed : Timed)
         → let h = happening setup (run setup earlier) timed in
         IsRight setup (history setup earlier) h.moment h.rules h.event h.output }
 {}
 
-/// The converse of `relaying_is_warranted`, so that a server that drops everything is none.
-/// Whatever else has come in between, from whomever: what needs to be asked for was asked for
-/// since the allocation was opened, in time, and answered with success; the lifetime that was
-/// granted last was never over; and the rules that are in force allow the peer. Then a Send
-/// indication and ChannelData go to the peer, by the client's socket; what the peer sends there
-/// reaches the client; and so does ICMP.
+/// The converse of `relaying_is_warranted`. Whatever else has happened in between, caused by anybody: if what
+/// is needed was asked for since the allocation was opened, in time, and with success, if the lifetime that
+/// was granted last never expired, and if the rules in force allow the peer, then a Send indication and
+/// ChannelData go to the peer through the client's socket, and the peer's data and ICMP reach the client.
+/// Whether the peer's data comes as ChannelData or as a Data indication is left to `bound_channels_are_used`.
 pub fn what_is_permitted_works()
     ensures out { (setup : Setup) (earlier : List Timed) (now : ℕ) (rules : Rules)
         (tuple : FiveTuple) (number : ℕ) (peer : Endpoint) (dont_fragment : Bool) (bytes : List ℕ)
@@ -258,9 +307,8 @@ pub fn what_is_permitted_works()
         ≡ to_client_icmp tuple peer icmp }
 {}
 
-/// To a client that has bound a channel to the peer less than 600 seconds ago, the peer's data
-/// goes as ChannelData with this number; if it has bound none to this peer, as a Data indication.
-/// One thing is sent, so never both.
+/// To a client that bound a channel to the peer less than 600 seconds ago, the peer's data goes as ChannelData
+/// with this number; to one that bound none, as a Data indication. There is one output, so never both.
 pub fn bound_channels_are_used()
     ensures bound { (setup : Setup) (earlier : List Timed) (now : ℕ) (rules : Rules)
         (tuple : FiveTuple) (number : ℕ) (peer : Endpoint) (channel : ℕ) (bytes : List ℕ)
@@ -280,13 +328,12 @@ pub fn bound_channels_are_used()
         ≡ to_client tuple peer bytes }
 {}
 
-/// A flow is what may be relayed on a channel without the machine being asked. Until it ends, the
-/// machine relays so both ways: ChannelData to this peer by this socket, and what this peer sends
-/// there as ChannelData with this number, if the rules allow the peer. It stays so, whatever comes,
-/// but accepted requests of this client and what the caller ends. There is a flow if and only if
-/// both directions are relayed, and it ends with the first of the three: the relayed address, the
-/// channel, and the permission of the peer's IP address. What the machine relays so, until one
-/// moment and no longer, is the flow; and a socket and a peer are of one flow.
+/// A flow is a channel that may be relayed without asking the machine. Until it ends, the machine relays both
+/// ways as the flow says, if the rules allow the peer: ChannelData to this peer through this socket, and what
+/// the peer sends there as ChannelData with this number. No event changes a flow but a successful request of
+/// its client, and an end by the caller. There is a flow if and only if both directions are relayed, and it
+/// ends with the first of the relayed address, the channel, and the permission for the peer's IP address, so
+/// the flow is determined. A socket and a peer belong to one flow. When the rules change is left open.
 pub fn flows_are_right()
     ensures out { (setup : Setup) (earlier : List Timed) (tuple : FiveTuple) (channel : ℕ)
         (flow : Flow) (now : ℕ) (rules : Rules) (bytes : List ℕ)
@@ -336,9 +383,9 @@ pub fn flows_are_right()
         → (tuple ≡ other) × (channel ≡ second) }
 {}
 
-/// A datagram that isn't a user's authentic request changes nothing but the clock, and for one
-/// that nothing live is for, nothing is done. All that comes later is as if it had not come. Time
-/// alone takes away what has ended and nothing else, and reports it.
+/// A datagram that is no authentic request of a user changes the clock only, and if no relayed address matches
+/// it, nothing is done. All that happens later is as if it hadn't come. Time alone ends what has expired,
+/// reports it, and does nothing else.
 pub fn strangers_get_little()
     ensures unchanged { (setup : Setup) (rules : Rules) (state : State) (now : ℕ) (event : Event)
         → is_datagram event ≡ true → (step setup rules state now event).state ≡ at now state }
@@ -352,11 +399,12 @@ pub fn strangers_get_little()
         ≡ record { state = at now state; output = nothing; closes = over_at now state ++ [] } }
 {}
 
-/// What a client is answered, at which moments, and where its data and its peers' data go, is
-/// determined by what it does itself, what comes to a socket that it has got, and the answers to
-/// its Allocate requests (which depend on the quota, the room and the caller's sockets). So it
-/// sees the same of two runs in which these are the same, whatever others do. At all other events
-/// nothing is sent to it.
+/// What a client observes (its responses, their moments, where its data and its peers' data go) is determined
+/// by what the client does, by what arrives at the sockets that it was given, and by the responses to its
+/// Allocate requests. So two runs in which these are the same look the same to it, whatever others do, and
+/// at all other events nothing is sent to it. The responses to Allocate requests depend on others, by the
+/// quota, the room and the caller's sockets: `fit_is_granted` and `refusals_are_exact` say how. The law says
+/// nothing of reservations.
 pub fn clients_are_apart()
     ensures alike { (setup : Setup) (tuple : FiveTuple) (one other : List Timed)
         → own tuple (history setup one) ≡ own tuple (history setup other)
@@ -366,8 +414,8 @@ pub fn clients_are_apart()
         → comes_to tuple (happening setup (run setup events) timed).output ≡ false }
 {}
 
-/// Sessions, evaluated: what each event is answered with, and which sockets are to be closed; and
-/// the edges of the rules, with their moments to the nanosecond.
+/// Whole sessions, evaluated by the prover: the output of each event and the sockets to be closed, and the
+/// edges of all rules to the nanosecond. The expected outputs are written from the RFC.
 pub fn sessions_go_so()
     ensures session { outputs (history small_setup session) ≡ expected }
     ensures flood { outputs (history small_setup flood) ≡ flood_expected }
@@ -384,12 +432,13 @@ pub fn sessions_go_so()
     ensures held_tokens { held_tokens plain_setup held_cases ≡ map (λ c. c.token) held_cases }
 {}
 
-/// EVEN-PORT with its bit, and RESERVATION-TOKEN: a run with reservations is a run of the
-/// machine, so all laws hold of it. What is fit is reserved, for 30 seconds; its token serves its
-/// user, and once; another opens nothing. Only a request that opens an allocation reserves, and only
-/// one that opens an allocation uses up a token: a refused request, one that comes again, and all
-/// other events leave the reservations as they are. A user never holds more than the quota. Each
-/// reservation that expires is reported.
+/// EVEN-PORT with its R bit, and RESERVATION-TOKEN. A run with reservations is a run of the machine, so the
+/// other laws hold of it. A fit request reserves the caller's second socket for 30 seconds. The token serves
+/// the user that reserved, once; with any other token nothing is opened. Only a request that opens an
+/// allocation reserves or uses up a reservation: a refused request reserves nothing and leaves all tokens
+/// valid, and so do a request that comes again and all other events. A request that comes again gets the
+/// token of the first response. A user never has more reservations than the quota, and the token of each
+/// reservation that expires is reported. That tokens can't be guessed is the caller's.
 pub fn reservations_are_kept()
     ensures state { (setup : Setup) (events : List OuterTimed)
         → (outer_run setup events).state ≡ run setup (inner_run setup events) }
@@ -445,7 +494,7 @@ pub fn reservations_are_kept()
         ≡ map (λ r. r.token) (filter (λ r. not (nat_lt (max h.state.clock now) r.until)) h.held) }
 {}
 
-/// The tests by which the definitions compare addresses and 5-tuples are equality.
+/// The tests by which the definitions compare IP addresses, transport addresses and 5-tuples are equality.
 pub fn tests_are_equality()
     ensures ips { (a b : Ip) → (is_ip a b ≡ true) ↔ (a ≡ b) }
     ensures endpoints { (a b : Endpoint) → (is_endpoint a b ≡ true) ↔ (a ≡ b) }
