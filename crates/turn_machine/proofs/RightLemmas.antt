@@ -199,7 +199,7 @@ bounced_right setup hs n rules number peer icmp a came at_it g =
     let two = and_parts (rules.allows_ip peer.ip) (setup.passes_icmp && is_passed peer.ip.family icmp) one.1 in
     let three = and_parts setup.passes_icmp (is_passed peer.ip.family icmp) two.1 in
     let l = let_in hs n a peer.ip came g one.0 in
-    (number, refl, two.0, three.0, warranted hs n a.tuple number peer (ArePermitting a.tuple peer n) a came g refl (sym (eqb-true a.number number at_it)) l.family_is l.asked))
+    (number, refl, two.0, three.0, three.1, warranted hs n a.tuple number peer (ArePermitting a.tuple peer n) a came g refl (sym (eqb-true a.number number at_it)) l.family_is l.asked))
     (λ _. tt)
 
 -- ---- Responses

@@ -1,11 +1,11 @@
 -- The edges of the rules, as cases that the prover evaluates: each event with its expected output,
 -- in order of time.
 use Rattle.turn_machine.specs.Reserving.{OuterState, Outer, plain, reserves, claims, outer_step, OuterTimed, outer_run, outer_outputs}
-use Rattle.std.specs.Prelude.{ℕ, ◌-◌, ◌==◌, ◌||◌, not, true, false, List, [], ◌∷◌, map, reverse, None, Some, Option}
+use Rattle.std.specs.Prelude.{ℕ, zero, suc, ◌-◌, ◌==◌, ◌||◌, not, true, false, List, [], ◌∷◌, map, reverse, None, Some, Option}
 use Rattle.stun_endpoints.specs.declared.endpoints.Endpoint.{Endpoint}
 use Rattle.stun_endpoints.specs.declared.endpoints.FiveTuple.{FiveTuple}
 use Rattle.turn_machine.specs.Relays.{seconds, Setup, Rules}
-use Rattle.turn_machine.specs.Events.{Request, allocate, unfit_allocate, refresh, permit, bind, unfit, Event, asks, sends, sends_on, arrives, bounces, ends, ends_user, Icmp, Given, allocated, refreshed, done, refused, Output, answers, to_peer, to_client, to_client_on, to_client_icmp, nothing, Offer}
+use Rattle.turn_machine.specs.Events.{Request, allocate, unfit_allocate, refresh, permit, bind, unfit, permit_request, Event, asks, sends, sends_on, arrives, bounces, ends, ends_user, Icmp, Given, allocated, refreshed, done, refused, Output, answers, to_peer, to_client, to_client_on, to_client_icmp, nothing, Offer}
 use Rattle.turn_machine.specs.Runs.{Timed, history}
 use Rattle.turn_machine.specs.Examples.{address, ipv6_address, client, ipv4_want, ipv6_want, ipv4_given, ipv6_given, alice, bob, outputs}
 
@@ -79,6 +79,10 @@ blocked = record { ip = record { family = 1; number = 21 }; port = 99 }
 abbrev pub same_ip_other_port : Endpoint
 same_ip_other_port = record { ip = record { family = 1; number = 22 }; port = 3480 }
 
+abbrev pub copies : ℕ → Endpoint → List Endpoint
+copies zero peer = []
+copies (suc n) peer = peer ∷ copies n peer
+
 -- Requests: clients 11 and 12 are Alice's, 13 and 14 Bob's
 abbrev pub requests : List Case
 requests =
@@ -112,6 +116,9 @@ requests =
     ∷ on 5 (asks_from 11 alice (permit (address 66 ∷ address 21 ∷ []))) (no 11 403)
     ∷ on 5 (asks_from 11 alice (permit (address 21 ∷ ipv6_address 21 ∷ []))) (no 11 443)
     ∷ on 5 (asks_from 11 alice (permit (address 21 ∷ address 22 ∷ address 23 ∷ []))) (no 11 508)
+    ∷ on 5 (asks_from 11 alice (permit_request (copies 65 (ipv6_address 21)))) (no 11 508)
+    ∷ on 5 (asks_from 11 alice (permit_request (copies 64 (ipv6_address 21)))) (no 11 443)
+    ∷ on 5 (asks_from 11 alice (permit_request (copies 64 (address 21)))) (yes 11)
     ∷ on 5 (asks_from 11 alice (permit (address 21 ∷ address 22 ∷ []))) (yes 11)
     ∷ on 6 (asks_from 11 alice (bind 0x3FFF (address 21))) (no 11 400)
     ∷ on 6 (asks_from 11 alice (bind 0x5000 (address 21))) (no 11 400)

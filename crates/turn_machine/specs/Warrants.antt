@@ -1,6 +1,6 @@
 -- What warrants that a datagram is relayed, in terms of the events, outputs and moments before it,
 -- and not of the server's state.
-use Rattle.std.specs.Prelude.{◌≡◌, ℕ, ◌+◌, ◌<◌, ◌≤◌, ◌==◌, ◌&&◌, if◌then◌else◌, Bool, true, false, ◌⊎◌, List, [], ◌∷◌, ◌++◌, Option, None, Some}
+use Rattle.std.specs.Prelude.{◌≡◌, ℕ, ◌+◌, ◌<◌, ◌≤◌, ◌==◌, ◌&&◌, ◌||◌, if◌then◌else◌, Bool, true, false, ◌⊎◌, List, [], ◌∷◌, ◌++◌, Option, None, Some}
 use Rattle.std.specs.List.{list_any}
 use Rattle.std.specs.Option.{option_map_or}
 use Rattle.stun_endpoints.specs.declared.endpoints.Ip.{Ip}
@@ -102,6 +102,11 @@ abbrev pub AreBinding : FiveTuple → (channel : ℕ) → Endpoint → (now user
     → Type 0
 AreBinding tuple channel peer now user since = SomeOf (Binds tuple user channel peer now) since
 
+-- the types of ICMP that are relayed (11.5)
+abbrev pub is_reported : (family type_number : ℕ) → Bool
+is_reported family n =
+    if family == 1 then (n == 3) || (n == 11) else (n == 1) || ((n == 2) || (n == 3))
+
 -- ---- Warrants
 
 -- The exchange of data between a client and a peer, through a socket, is warranted: the user opened
@@ -142,6 +147,6 @@ IsRight setup earlier now rules event (to_client_on tuple channel bytes) =
     × AreBinding tuple channel peer now user since)
 IsRight setup earlier now rules event (to_client_icmp tuple peer icmp) =
     (number : ℕ) × (event ≡ bounces number peer icmp) × (rules.allows_ip peer.ip ≡ true)
-    × (setup.passes_icmp ≡ true)
+    × (setup.passes_icmp ≡ true) × (is_reported peer.ip.family icmp.type_number ≡ true)
     × IsWarranted earlier now tuple number peer (ArePermitting tuple peer now)
 IsRight setup earlier now rules event nothing = Unit {0}

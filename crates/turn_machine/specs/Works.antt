@@ -1,6 +1,6 @@
 -- When data must reach the other side, in terms of what has happened before: the converse of a
 -- warrant, in the same terms.
-use Rattle.std.specs.Prelude.{◌≡◌, ℕ, ◌<◌, ◌+◌, ◌⊎◌, List, [], ◌∷◌, ◌++◌, Bool, ◌==◌, ◌||◌, if◌then◌else◌}
+use Rattle.std.specs.Prelude.{◌≡◌, ℕ, ◌<◌, ◌+◌, ◌⊎◌, List, [], ◌∷◌, ◌++◌}
 use Rattle.stun_endpoints.specs.declared.endpoints.Endpoint.{Endpoint}
 use Rattle.stun_endpoints.specs.declared.endpoints.FiveTuple.{FiveTuple}
 use Rattle.turn_machine.specs.Lists.{SomeOf}
@@ -49,8 +49,3 @@ Reaches tuple peer bytes output =
 abbrev pub IsBoundTo : FiveTuple → Endpoint → (now : ℕ) → List Happening → Type 0
 IsBoundTo tuple peer now earlier =
     SomeOf (λ h. (user : ℕ) × (channel : ℕ) × Binds tuple user channel peer now h) earlier
-
--- the types of ICMP that are relayed (11.5)
-abbrev pub is_reported : (family type_number : ℕ) → Bool
-is_reported family n =
-    if family == 1 then (n == 3) || (n == 11) else (n == 1) || ((n == 2) || (n == 3))
