@@ -1,4 +1,4 @@
--- Addresses that pass for the same are the same.
+-- The tests for IP addresses, transport addresses and 5-tuples are equality.
 use Rattle.std.proofs.Common.{◌≡◌, ℕ, true, ◌&&◌, refl, ap, ◌∙◌, eqb-true, eq-eqb, subst}
 use Rattle.std.proofs.lemmas.Bool.{and_parts, and_from}
 use Rattle.std.specs.Prelude.{◌↔◌, ◌==◌}

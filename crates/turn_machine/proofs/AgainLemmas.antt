@@ -1,4 +1,4 @@
--- An Allocate request that comes again is answered with what the client has.
+-- An Allocate request that comes again is answered with all that the client has.
 use Rattle.std.proofs.Common.{◌≡◌, ℕ, ◌+◌, ◌-◌, ◌/◌, ◌<◌, ◌≤◌, inl, inr, true, List, [], ◌∷◌, Option, None, Some, refl, sym, ap, subst, eq-eqb, ltb-true, ltb-false, Bool, false, arith}
 use Rattle.std.specs.List.{AllByRecursion, list_any}
 use Rattle.std.specs.Option.{option_map_or}

@@ -1,4 +1,4 @@
--- What is kept is backed by what has happened.
+-- When a state rests on what has happened.
 use Rattle.std.proofs.Common.{◌≡◌, ℕ, ◌+◌, ◌≤◌, inr, true, false, List, ◌∷◌, ◌++◌, Option, None, refl, sym, ap, ◌∙◌, subst}
 use Rattle.std.specs.Option.{option_map_or}
 use Rattle.std.proofs.lemmas.Bool.{cond_both, cond-false}
@@ -47,7 +47,7 @@ pub record IsBacked (earlier : List Happening) (a : Relay) : Type 0 where
   pub permissions : AllByRecursion (IsInstalled since a.tuple a.user a.family) a.permissions
   pub channels : AllByRecursion (IsAttached since a.tuple a.user a.family) a.channels
 
--- ---- It goes on
+-- ---- It stays so
 
 pub permissions_on : (h : Happening) (since : List Happening) (tuple : FiveTuple) (user family : ℕ) (ps : List Permission) → AllByRecursion (IsInstalled since tuple user family) ps → AllByRecursion (IsInstalled (h ∷ since) tuple user family) ps
 permissions_on h since tuple user family ps =

@@ -1,4 +1,4 @@
--- Each step leaves what is kept backed.
+-- Each step leaves the state resting on what has happened.
 use Rattle.std.proofs.Common.{◌≡◌, ℕ, ◌+◌, ◌≤◌, inl, inr, ◌⊎◌, Bool, true, false, not, cond, List, [], ◌∷◌, map, filter, Option, None, Some, refl, sym, ap, ◌∙◌, subst, eqb-true, le_of_eq}
 use Rattle.std.specs.List.{AllByRecursion, list_any}
 use Rattle.std.specs.Option.{option_map_or}
@@ -29,7 +29,7 @@ use Rattle.turn_machine.proofs.Backed.{IsInstalled, IsAttached, IsBacked, permis
 abbrev AreBacked : List Happening → State → Type 0
 AreBacked hs state = AllByRecursion (IsBacked hs) state.relays
 
--- all go on, if nothing is refreshed and ended
+-- all stay so, if nothing is refreshed or ended
 all_on : (h : Happening) (hs : List Happening) → ((a : Relay) → is_ended a.user a.number h.event ≡ false) → ((a : Relay) → refreshed_to a.tuple a.user a.family h ≡ None) → (all : List Relay) → AllByRecursion (IsBacked hs) all → AllByRecursion (IsBacked (h ∷ hs)) all
 all_on h hs not_ended quiet all = each_map (IsBacked hs) (IsBacked (h ∷ hs)) (λ a b. backed_on h hs a (not_ended a) (quiet a) b) all
 
@@ -159,7 +159,7 @@ lasting_backed h hs now rules tuple user granted wanted lifetime a says b =
     (λ off. same (right_false (is_owned tuple user a) (is_wanted wanted a) off)))
     (λ off. same (left_false (is_owned tuple user a) (is_wanted wanted a) off))
 
--- what ends isn't kept; what is kept goes on
+-- what ends leaves the state; the rest stays so
 without_backed : (h : Happening) (hs : List Happening) (test : Relay → Bool) (state : State) → ((a : Relay) → test a ≡ false → IsBacked hs a → IsBacked (h ∷ hs) a) → AreBacked hs state → AreBacked (h ∷ hs) (without test state)
 without_backed h hs test state on each =
     each_filtered (IsBacked hs) (IsBacked (h ∷ hs)) (λ a. not (test a)) (λ a kept b. on a (not_yes (test a) kept) b) state.relays each

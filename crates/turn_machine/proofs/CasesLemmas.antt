@@ -1,4 +1,4 @@
--- What a request comes to: it is refused, answered again, or fulfilled.
+-- A request is refused, answered again, or fulfilled.
 use Rattle.std.proofs.Common.{◌≡◌, ℕ, true, false, Option, None, Some, refl}
 use Rattle.std.specs.Option.{option_map_or}
 use Rattle.std.proofs.lemmas.Bool.{cond_both}

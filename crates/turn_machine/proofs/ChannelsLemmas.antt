@@ -1,4 +1,4 @@
--- No number is bound twice by a client, in whatever families.
+-- A client binds no channel number twice, in either family.
 use Rattle.std.proofs.Common.{◌≡◌, ℕ, ◌+◌, ◌≤◌, inl, inr, Bool, true, false, not, cond, List, [], ◌∷◌, map, filter, None, refl, sym, ap, ◌∙◌, subst, eqb-true, eq-eqb, zero-le, arith}
 use Rattle.std.specs.List.{AllByRecursion, list_any}
 use Rattle.std.specs.Prelude.{◌==◌, ◌&&◌, max, nat_lt, count_by}

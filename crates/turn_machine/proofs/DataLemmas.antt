@@ -1,4 +1,4 @@
--- What is relayed is no response.
+-- Relaying never outputs a response.
 use Rattle.std.proofs.Common.{◌≡◌, Bool, true, false, not, cond, find, Option, None, Some, refl}
 use Rattle.std.specs.Option.{option_map_or}
 use Rattle.std.specs.Prelude.{◌&&◌, ◌||◌}

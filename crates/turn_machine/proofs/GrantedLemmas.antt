@@ -1,4 +1,4 @@
--- What is fit of Refresh, CreatePermission and ChannelBind is granted.
+-- Fit Refresh, CreatePermission and ChannelBind requests are granted.
 use Rattle.std.proofs.Common.{◌≡◌, ◌≢◌, ℕ, ◌+◌, ◌≤◌, inl, inr, Bool, true, false, not, cond, List, [], ◌∷◌, ◌++◌, map, filter, find, length, Option, None, Some, refl, sym, ap, ◌∙◌, subst, ltb-true, arith, eqb-true, eq-eqb}
 use Rattle.std.specs.List.{AllByRecursion, list_any, list_all}
 use Rattle.std.specs.Prelude.{◌==◌, ◌||◌, ◌&&◌, nat_lt}
@@ -186,7 +186,7 @@ none_left now m ip new (p ∷ ps) same =
     ap (λ (b : Bool). b || list_any (is_permission m ip) (filter (is_other_permission now new) ps)) (left_false (is_ip ip p.ip) (nat_lt m p.until) isnt) ∙ more)
     (λ _. more)
 
--- of another IP address, what isn't over stays
+-- of another IP address, what hasn't expired stays
 pub others_left : (now m : ℕ) (ip new : Ip) (ps : List Permission) → now ≤ m → is_ip ip new ≡ false → list_any (is_permission m ip) (filter (is_other_permission now new) ps) ≡ list_any (is_permission m ip) ps
 others_left now m ip new [] le differ = refl
 others_left now m ip new (p ∷ ps) le differ =

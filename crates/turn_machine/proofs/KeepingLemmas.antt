@@ -1,7 +1,7 @@
 -- What each event keeps, every run keeps.
 use Rattle.std.proofs.Common.{◌≢◌, eq-eqb, ◌&&◌, ◌≡◌, ℕ, ◌+◌, ◌<◌, ◌≤◌, Bool, true, false, List, [], ◌∷◌, Option, None, Some, refl, sym, ◌∙◌, subst, arith}
 use Rattle.std.specs.Option.{option_map_or}
-use Rattle.std.specs.Prelude.{◌==◌, max}
+use Rattle.std.specs.Prelude.{◌==◌}
 use Rattle.std.proofs.lemmas.Bool.{cond_both, false≢true}
 use Rattle.stun_endpoints.specs.declared.endpoints.Endpoint.{Endpoint}
 use Rattle.stun_endpoints.specs.declared.endpoints.FiveTuple.{FiveTuple}
@@ -30,10 +30,6 @@ pub record Keeps (setup : Setup) (Who : ℕ → Type 0) (Q : State → Type 0) :
 pub granted_least : (lifetime : Option ℕ) (greatest : ℕ) → 600 ≤ granted_for lifetime greatest
 granted_least None greatest = omega arith
 granted_least (Some wanted) greatest = omega arith
-
-pub granted_most : (lifetime : Option ℕ) (greatest : ℕ) → granted_for lifetime greatest ≤ max 600 greatest
-granted_most None greatest = omega arith
-granted_most (Some wanted) greatest = omega arith
 
 pub later : (clock lifetime : ℕ) → 600 ≤ lifetime → clock < clock + seconds lifetime
 later clock lifetime least = omega (arith, least)

@@ -1,4 +1,4 @@
--- What is kept is live and within its bounds, and no user has more than the quota.
+-- The state is live and within its limits, and no user has more than the quota.
 use Rattle.std.proofs.Common.{◌≡◌, ℕ, ◌+◌, ◌<◌, ◌≤◌, Bool, true, false, not, cond, List, [], ◌∷◌, length, Option, refl, sym, ap, subst, ltb-true, ltb-false, zero-le, eqb-true, arith}
 use Rattle.std.specs.List.{AllByRecursion}
 use Rattle.std.specs.Prelude.{◌==◌, ◌&&◌, max, count_by, nat_lt}

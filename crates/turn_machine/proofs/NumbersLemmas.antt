@@ -60,9 +60,6 @@ saves_changed tuple user change state same = record {
   next = refl;
 }
 
-saves_same : (state : State) → Saves state state []
-saves_same state = record { same = λ n. omega arith; next = refl }
-
 pub kept_over : (live : Relay → Bool) (all : List Relay) (n : ℕ) → count_by (is_at n) (filter live all) + times n (numbers (filter (λ a. not (live a)) all)) ≡ count_by (is_at n) all
 kept_over live all n =
     let parts = count_parts (is_at n) live all in

@@ -1,4 +1,4 @@
--- Each code is answered exactly if its reason is so.
+-- Each code is the response if and only if its reason holds.
 use Rattle.std.proofs.lemmas.List.Sums.{length-filter}
 use Rattle.std.proofs.Common.{◌≡◌, ℕ, ◌<◌, ◌≤◌, inl, inr, Bool, true, false, not, List, [], ◌∷◌, length, Option, None, Some, refl, sym, ap, subst, ◌∙◌, ltb-true, ltb-false, eqb-true, eq-eqb, cond, filter, ◌+◌, arith}
 use Rattle.std.specs.List.{AllByRecursion, list_any, list_all}
@@ -25,12 +25,6 @@ use Rattle.turn_machine.proofs.GrantingLemmas.{free_again}
 use Rattle.turn_machine.proofs.ChainLemmas.{allocate_437_is, allocate_437_if, allocate_440_is, allocate_440_if, allocate_486_is, allocate_486_if, allocate_508_is, allocate_508_if, allocate_codes, refresh_437_is, refresh_437_if, refresh_441_is, refresh_441_if, refresh_443_is, refresh_443_if, refresh_codes, permit_437_is, permit_437_if, permit_441_is, permit_441_if, permit_443_is, permit_443_if, permit_403_is, permit_403_if, permit_508_is, permit_508_if, permit_codes, bind_437_is, bind_437_if, bind_441_is, bind_441_if, bind_400_is, bind_400_if, bind_443_is, bind_443_if, bind_403_is, bind_403_if, bind_508_is, bind_508_if, bind_codes}
 
 -- ---- Tests in words
-
-not_is : (b : Bool) → b ≡ false → not b ≡ true
-not_is b e = ap not e
-
-not_isnt : (b : Bool) → b ≡ true → not b ≡ false
-not_isnt b e = ap not e
 
 free : (tuple : FiveTuple) (s : State) → has_any tuple s ≡ false → IsFree tuple s
 free tuple s none = any_none (is_of tuple) s.relays none
@@ -435,7 +429,7 @@ unfit_refusals setup rules state now tuple user code =
       other = λ is. for_refused setup rules tuple user (unfit code) s code (record { new = refl; fault_is = two_rows has anothers_are code (some_any (is_of tuple) s.relays is.has) (own_his tuple user s is) });
     }
 
--- ---- What is over takes no room
+-- ---- What has expired takes no room
 
 with_true : (p keep : Bool) → keep ≡ true → p ≡ (p && keep)
 with_true true true e = refl

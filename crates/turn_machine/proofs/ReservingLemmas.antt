@@ -1,4 +1,4 @@
--- Reservations: each run is a run of the machine; a token lasts 30 seconds and serves once.
+-- Reservations: a run with them is a run of the machine; a token lasts 30 seconds and serves once.
 use Rattle.std.proofs.Common.{inr, ◌≡◌, ℕ, ◌+◌, ◌<◌, ◌≤◌, Bool, true, false, not, cond, List, [], ◌∷◌, filter, find, Option, None, Some, refl, sym, ap, ◌∙◌, subst, eqb-true, eq-eqb, ltb-true, zero-le, arith}
 use Rattle.std.specs.Option.{option_map_or}
 use Rattle.std.specs.Prelude.{◌==◌, ◌&&◌, max, count_by, nat_lt, is_some}

@@ -1,4 +1,4 @@
--- What is done is right, if what is kept is backed.
+-- Each output is warranted, if the state rests on what has happened.
 use Rattle.std.proofs.Common.{lt_of_lt_of_le, ◌≡◌, ℕ, ◌+◌, ◌<◌, ◌≤◌, inl, inr, Bool, true, false, not, List, [], ◌∷◌, ◌++◌, find, refl, sym, subst, eqb-true, ltb-true, arith}
 use Rattle.std.specs.List.{AllByRecursion, list_any}
 use Rattle.std.specs.Option.{option_map_or}
@@ -50,7 +50,7 @@ split_all : (P : Happening → Type 0) (since : List Happening) (h : Happening) 
 split_all P [] h before each = (tt, each.0)
 split_all P (x ∷ since) h before each = let more = split_all P since h before each.1 in ((each.0, more.0), more.1)
 
--- ---- What is not over is still in time
+-- ---- What has not expired is still in time
 
 permits_on : (tuple : FiveTuple) (user : ℕ) (ip : Ip) (n until : ℕ) → n < until → (h : Happening) → h.moment ≤ n → Installs tuple user ip until h → Permits tuple user ip n h
 permits_on tuple user ip n until lasts h came g = record {

@@ -1,4 +1,4 @@
--- What a row says, if it applies or not.
+-- What follows if a row applies, or not.
 use Rattle.std.proofs.Common.{◌≡◌, ℕ, Bool, true, false, not, List, [], ◌∷◌, Option, None, Some, refl, inl, inr, ◌⊎◌, sym, ◌∙◌, eq-eqb, eqb-true, ltb-true, subst}
 use Rattle.std.specs.List.{list_any, list_all}
 use Rattle.std.specs.Prelude.{◌||◌, ◌&&◌, nat_lt, ◌==◌}
@@ -16,10 +16,6 @@ use Rattle.turn_machine.proofs.AddressesLemmas.{endpoint_same, endpoint_is_itsel
 pub row_none : (applies : Bool) (code : ℕ) (others : Option ℕ) → row applies code others ≡ None → (applies ≡ false) × (others ≡ None)
 row_none true code others e = absurd cc
 row_none false code others e = (refl, e)
-
-pub row_some : (applies : Bool) (code : ℕ) (others : Option ℕ) (c : ℕ) → row applies code others ≡ Some c → ((applies ≡ true) × (code ≡ c)) ⊎ ((applies ≡ false) × (others ≡ Some c))
-row_some true code others c e = inl (refl, (cc))
-row_some false code others c e = inr (refl, e)
 
 pub not_no : (b : Bool) → not b ≡ false → b ≡ true
 not_no true e = refl

@@ -1,4 +1,4 @@
--- What was granted is there until its time is over, whatever comes.
+-- What was granted stays until it expires, whatever happens.
 use Rattle.std.proofs.Common.{◌≡◌, ◌≢◌, ℕ, ◌+◌, ◌<◌, ◌≤◌, inl, inr, Bool, true, false, not, cond, List, [], ◌∷◌, ◌++◌, map, filter, find, Option, None, Some, refl, sym, ap, ◌∙◌, subst, eqb-true, eq-eqb, le_of_eq, arith}
 use Rattle.std.specs.List.{AllByRecursion, list_any}
 use Rattle.std.specs.Option.{option_map_or}
@@ -224,7 +224,7 @@ step_on setup tuple user number first dest n since now rules (ends_user owner) s
 step_on setup tuple user number first dest n since now rules ticks state le held kept =
     data_on tuple user number first dest n (happening setup state (record { now = now; rules = rules; event = ticks })) since (at now state) refl refl (λ _ _ e. absurd cc) held
 
--- ---- The beginning
+-- ---- The first state
 
 -- who is given a number has it
 given_some : (tuple : FiveTuple) (family number : ℕ) (all : List Relay) → SomeOf (λ g. (g.family ≡ family) × (g.number ≡ number)) (map given_of (filter (is_of tuple) all)) → SomeOf (λ a. (is_for tuple family a ≡ true) × (a.number ≡ number)) all

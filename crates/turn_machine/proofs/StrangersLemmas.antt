@@ -1,4 +1,4 @@
--- A datagram of a stranger leaves nothing.
+-- A stranger's datagram leaves no trace.
 use Rattle.turn_machine.proofs.GrantingLemmas.{filter_none}
 use Rattle.std.proofs.Common.{◌≡◌, ℕ, ◌+◌, ◌≤◌, Bool, true, false, cond, List, [], ◌∷◌, ◌++◌, filter, find, Option, refl, sym, ap, ◌∙◌, ltb-false, arith, ◌<◌, not}
 use Rattle.std.specs.List.{AllByRecursion, list_any}

@@ -1,5 +1,5 @@
-//! A TURN server by RFC 8656 as a machine, and fourteen laws that are proved of it: what must never happen,
-//! and what must. There is nothing to run here. Each function has an empty body, and its contract is a law.
+//! A TURN server by RFC 8656 as a machine without code, and fourteen laws that are proved of it. They say
+//! what must never happen, and what must. Each function here has an empty body, and its contract is a law.
 //!
 //! # The machine
 //!
