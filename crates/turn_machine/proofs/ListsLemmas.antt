@@ -140,19 +140,19 @@ pub count_append : {X : Type 0} (p : X → Bool) (xs ys : List X) → count_by p
 count_append p [] ys = omega arith
 count_append p (x ∷ xs) ys =
     let more = count_append p xs ys in
-    let dont_fragment = count_cons p x (xs ++ ys) in
+    let total = count_cons p x (xs ++ ys) in
     let one = count_cons p x xs in
-    omega (arith, more, dont_fragment, one)
+    omega (arith, more, total, one)
 
 -- what passes a test, and what doesn't
 pub count_parts : {X : Type 0} (p test : X → Bool) (xs : List X) → count_by p (filter test xs) + count_by p (filter (λ x. not (test x)) xs) ≡ count_by p xs
 count_parts p test [] = refl
 count_parts p test (x ∷ xs) =
     let more = count_parts p test xs in
-    let dont_fragment = count_cons p x xs in
+    let total = count_cons p x xs in
     let one = count_cons p x (filter test xs) in
     let other = count_cons p x (filter (λ y. not (test y)) xs) in
-    by_bool (test x) (count_by p) x (filter test xs) (filter (λ y. not (test y)) xs) (cond (p x) 1 0) (count_by p xs) one other more ∙ sym dont_fragment
+    by_bool (test x) (count_by p) x (filter test xs) (filter (λ y. not (test y)) xs) (cond (p x) 1 0) (count_by p xs) one other more ∙ sym total
 
 pub filter_swap : {X : Type 0} (p q : X → Bool) (xs : List X) → filter p (filter q xs) ≡ filter q (filter p xs)
 filter_swap p q [] = refl

@@ -4,6 +4,7 @@ use Rattle.std.proofs.Common.{◌≡◌, ℕ, ◌<◌, ◌≤◌, inl, inr, Bool
 use Rattle.std.specs.List.{AllByRecursion, list_any, list_all}
 use Rattle.std.specs.Prelude.{◌==◌, ◌||◌, ◌&&◌, count_by, nat_lt, is_some, ◌⊎◌}
 use Rattle.std.proofs.lemmas.Bool.{and_parts, and_from, or_left, or_right, or_cases, false≢true, lt-ltb, le-ltb, cond_both, cond-true, cond-false}
+use Rattle.stun_endpoints.specs.declared.endpoints.Ip.{Ip}
 use Rattle.stun_endpoints.specs.declared.endpoints.Endpoint.{Endpoint}
 use Rattle.stun_endpoints.specs.declared.endpoints.FiveTuple.{FiveTuple}
 use Rattle.stun_endpoints.specs.Endpoints.{is_ip}
@@ -15,7 +16,8 @@ use Rattle.turn_machine.specs.Opening.{has_of}
 use Rattle.turn_machine.specs.Rows.{row, has_any, is_of_another, has_of_another, is_offered, is_ready, has_wanted, permissions_after, lacks_permissions, have_families, clashes, is_bound_otherwise, is_channel_number, with_channel, lacks_channels, is_other_permission, is_other_channel, with_permissions}
 use Rattle.turn_machine.specs.Data.{allows}
 use Rattle.turn_machine.specs.Granting.{IsClash, IsFree, HasOf, LacksOf, IsOwn}
-use Rattle.turn_machine.specs.Refusals.{IsOfAnother, IsUnready, IsUncovered, HaveFamilies, LackFamily, LacksPermissions, LacksChannels, IsBadNumber, IsGoodNumber, IsAgain, AllocateRefusals, RefreshRefusals, PermitRefusals, BindRefusals, UnfitRefusals, is_left, IsRoomByLive, IsChannelRoomByLive}
+use Rattle.turn_machine.specs.Refusals.{IsOfAnother, IsUnready, IsUncovered, HaveFamilies, LackFamily, LacksPermissions, LacksChannels, IsBadNumber, IsGoodNumber, IsAgain, AllocateRefusals, RefreshRefusals, PermitRefusals, BindRefusals, UnfitRefusals, is_left, different, IsRoomByLive, IsChannelRoomByLive}
+use Rattle.turn_machine.proofs.AddressesLemmas.{ip_same}
 use Rattle.turn_machine.proofs.ListsLemmas.{each_map, none_any, any_none, some_any, any_some, some_map, all_each, each_all, some_not_all, not_all_some, count_cons, right_false}
 use Rattle.turn_machine.proofs.RowsLemmas.{not_no, not_yes, is_clash, clash_is, no_clash_is, is_no_clash}
 use Rattle.turn_machine.proofs.FaultLemmas.{refused_for, for_refused}
@@ -452,19 +454,15 @@ count_filtered : {X : Type 0} (p keep : X → Bool) (xs : List X) → count_by p
 count_filtered p keep [] = refl
 count_filtered p keep (x ∷ xs) =
     let more = count_filtered p keep xs in
-    let dont_fragment = count_cons (λ y. p y && keep y) x xs in
+    let total = count_cons (λ y. p y && keep y) x xs in
     cond_both (keep x) true false (λ (b : Bool). keep x ≡ b → count_by p (filter keep (x ∷ xs)) ≡ count_by (λ y. p y && keep y) (x ∷ xs))
     (λ _ is.
     ap (λ l. count_by p l) (cond-true (keep x) (x ∷ filter keep xs) (filter keep xs) is)
-    ∙ (count_cons p x (filter keep xs) ∙ (ap (λ (n : ℕ). cond (p x) 1 0 + n) more ∙ (ap (λ (b : Bool). cond b 1 0 + count_by (λ y. p y && keep y) xs) (with_true (p x) (keep x) is) ∙ sym dont_fragment))))
+    ∙ (count_cons p x (filter keep xs) ∙ (ap (λ (n : ℕ). cond (p x) 1 0 + n) more ∙ (ap (λ (b : Bool). cond b 1 0 + count_by (λ y. p y && keep y) xs) (with_true (p x) (keep x) is) ∙ sym total))))
     (λ _ isnt.
     ap (λ l. count_by p l) (cond-false (keep x) (x ∷ filter keep xs) (filter keep xs) isnt)
-    ∙ (more ∙ (zero_more (count_by (λ y. p y && keep y) xs) ∙ (ap (λ (b : Bool). cond b 1 0 + count_by (λ y. p y && keep y) xs) (sym (right_false (p x) (keep x) isnt)) ∙ sym dont_fragment))))
+    ∙ (more ∙ (zero_more (count_by (λ y. p y && keep y) xs) ∙ (ap (λ (b : Bool). cond b 1 0 + count_by (λ y. p y && keep y) xs) (sym (right_false (p x) (keep x) isnt)) ∙ sym total))))
     (same_cond (keep x))
-
-one_at_most : (b : Bool) (n m : ℕ) → n ≤ m → cond b 1 0 + n ≤ 1 + m
-one_at_most true n m le = omega (arith, le)
-one_at_most false n m le = omega (arith, le)
 
 left_parts : (k is lives named : Bool) → ((k && (not is && lives)) && (lives && not named)) ≡ (k && (lives && not (is || named)))
 left_parts false is lives named = refl
@@ -480,40 +478,91 @@ counted_first true true true = refl
 counted_first true false false = refl
 counted_first true false true = refl
 
--- how many of the permissions pass a test, after peers were added: one for each peer at most, and of
--- those before what is left
-count_added : (k : Permission → Bool) (now : ℕ) (peer : Endpoint) (peers : List Endpoint) (ps : List Permission) → count_by k (with_permissions now (peer ∷ peers) ps) ≤ length (peer ∷ peers) + count_by (λ p. k p && is_left now (peer ∷ peers) p) ps
+-- how many IP addresses of a list of peers pass a test, each counted once
+abbrev added : (Ip → Bool) → List Endpoint → ℕ
+added k [] = 0
+added k (peer ∷ peers) = cond (list_any (λ other. is_ip peer.ip other.ip) peers) 0 (cond (k peer.ip) 1 0) + added k peers
+
+-- the test that another IP address than this one passes
+abbrev others_of : Ip → (live : Bool) → (Ip → Bool) → Ip → Bool
+others_of ip live k i = k i && (not (is_ip ip i) && live)
+
+-- the count splits into one IP address and the others
+abbrev Splits : (Ip → Bool) → (ip : Ip) → (live : Bool) → List Endpoint → (is_this : Bool) → Ip → Type 0
+Splits k ip live peers is_this i =
+    cond (list_any (λ other. is_ip i other.ip) peers) 0 (cond (k i) 1 0) + added k peers
+    ≡ cond (is_this || list_any (λ other. is_ip ip other.ip) peers) (cond (k ip) 1 0) 0
+    + (cond (list_any (λ other. is_ip i other.ip) peers) 0 (cond (k i && (not is_this && live)) 1 0) + added (others_of ip live k) peers)
+
+split_same : (again here live : Bool) (all others : ℕ) → all ≡ cond again (cond here 1 0) 0 + others → cond again 0 (cond here 1 0) + all ≡ cond here 1 0 + (cond again 0 (cond (here && (false && live)) 1 0) + others)
+split_same true true live all others e = omega (arith, e)
+split_same true false live all others e = omega (arith, e)
+split_same false true live all others e = omega (arith, e)
+split_same false false live all others e = omega (arith, e)
+
+split_other : (again passes live : Bool) (here all others : ℕ) → live ≡ true → all ≡ here + others → cond again 0 (cond passes 1 0) + all ≡ here + (cond again 0 (cond (passes && (true && live)) 1 0) + others)
+split_other again true true here all others is e = omega (arith, e)
+split_other again false true here all others is e = omega (arith, e)
+split_other again passes false here all others is e = absurd (false≢true is)
+
+split_at : (k : Ip → Bool) (ip i : Ip) (live : Bool) (peers : List Endpoint) → live ≡ true → added k peers ≡ cond (list_any (λ other. is_ip ip other.ip) peers) (cond (k ip) 1 0) 0 + added (others_of ip live k) peers → Splits k ip live peers (is_ip ip i) i
+split_at k ip i live peers is more =
+    let mine = list_any (λ other. is_ip ip other.ip) peers in
+    let others = added (others_of ip live k) peers in
+    cond_both (is_ip ip i) true false (λ (b : Bool). is_ip ip i ≡ b → Splits k ip live peers (is_ip ip i) i)
+    (λ _ yes. subst (λ (b : Bool). Splits k ip live peers b i) (sym yes) (subst (λ (x : Ip). Splits k ip live peers true x) (ip_same ip i yes) (split_same mine (k ip) live (added k peers) others more)))
+    (λ _ isnt. subst (λ (b : Bool). Splits k ip live peers b i) (sym isnt) (split_other (list_any (λ other. is_ip i other.ip) peers) (k i) live (cond mine (cond (k ip) 1 0) 0) (added k peers) others is more))
+    (same_cond (is_ip ip i))
+
+split : (k : Ip → Bool) (ip : Ip) (live : Bool) → live ≡ true → (peers : List Endpoint) → added k peers ≡ cond (list_any (λ other. is_ip ip other.ip) peers) (cond (k ip) 1 0) 0 + added (others_of ip live k) peers
+split k ip live is [] = refl
+split k ip live is (peer ∷ peers) = split_at k ip peer.ip live peers is (split k ip live is peers)
+
+either_way : (b : Bool) (n : ℕ) → cond b 0 n + cond b n 0 ≡ n
+either_way true n = omega arith
+either_way false n = omega arith
+
+-- how many of the permissions pass a test, after peers were added: one for each of their IP
+-- addresses, and of those before what is left
+count_added : (k : Permission → Bool) (now : ℕ) (peer : Endpoint) (peers : List Endpoint) (ps : List Permission)
+    → count_by k (with_permissions now (peer ∷ peers) ps) ≡ added (λ i. k (record { ip = i; until = now + seconds 300 })) (peer ∷ peers) + count_by (λ p. k p && is_left now (peer ∷ peers) p) ps
 count_added k now peer [] ps =
     let p : Permission = record { ip = peer.ip; until = now + seconds 300 } in
     let head = count_cons k p (filter (is_other_permission now peer.ip) ps) in
     let rest = count_filtered k (is_other_permission now peer.ip) ps in
     let same = count_same (λ q. k q && is_other_permission now peer.ip q) (λ q. k q && is_left now (peer ∷ []) q) (λ q. counted_first (k q) (is_ip peer.ip q.ip) (nat_lt now q.until)) ps in
-    let most = one_at_most (k p) (count_by k (filter (is_other_permission now peer.ip) ps)) (count_by (λ q. k q && is_left now (peer ∷ []) q) ps) (omega (arith, rest, same)) in
-    omega (arith, head, most)
+    omega (arith, head, rest, same)
 count_added k now peer (next ∷ peers) ps =
     let p : Permission = record { ip = peer.ip; until = now + seconds 300 } in
+    let live = lt-ltb now (now + seconds 300) (omega arith) in
     let before = with_permissions now (next ∷ peers) ps in
     let head = count_cons k p (filter (is_other_permission now peer.ip) before) in
     let rest = count_filtered k (is_other_permission now peer.ip) before in
     let more = count_added (λ q. k q && is_other_permission now peer.ip q) now next peers ps in
     let same = count_same (λ q. (k q && is_other_permission now peer.ip q) && is_left now (next ∷ peers) q) (λ q. k q && is_left now (peer ∷ next ∷ peers) q)
     (λ q. left_parts (k q) (is_ip peer.ip q.ip) (nat_lt now q.until) (list_any (λ e. is_ip e.ip q.ip) (next ∷ peers))) ps in
-    let most = one_at_most (k p) (count_by k (filter (is_other_permission now peer.ip) before)) (length (next ∷ peers) + count_by (λ q. k q && is_left now (peer ∷ next ∷ peers) q) ps) (omega (arith, rest, more, same)) in
-    omega (arith, head, most)
+    let parts = split (λ i. k (record { ip = i; until = now + seconds 300 })) peer.ip (nat_lt now (now + seconds 300)) live (next ∷ peers) in
+    let either = either_way (list_any (λ other. is_ip peer.ip other.ip) (next ∷ peers)) (cond (k p) 1 0) in
+    omega (arith, head, rest, more, same, parts, either)
 
 count_all : {X : Type 0} (xs : List X) → count_by (λ x. true) xs ≡ length xs
 count_all [] = refl
 count_all (x ∷ xs) = let more = count_all xs in let here = count_cons (λ y. true) x xs in omega (arith, more, here)
 
-some_room : (now : ℕ) (first : Endpoint) (more : List Endpoint) (ps : List Permission) → length (with_permissions now (first ∷ more) ps) ≤ length (first ∷ more) + count_by (is_left now (first ∷ more)) ps
+all_added : (peers : List Endpoint) → added (λ i. true) peers ≡ different peers
+all_added [] = refl
+all_added (peer ∷ peers) = ap (λ (n : ℕ). cond (list_any (λ other. is_ip peer.ip other.ip) peers) 0 1 + n) (all_added peers)
+
+some_room : (now : ℕ) (first : Endpoint) (more : List Endpoint) (ps : List Permission) → length (with_permissions now (first ∷ more) ps) ≡ different (first ∷ more) + count_by (is_left now (first ∷ more)) ps
 some_room now first more ps =
-    let added = count_added (λ p. true) now first more ps in
+    let counted = count_added (λ p. true) now first more ps in
     let all = count_all (with_permissions now (first ∷ more) ps) in
-    omega (arith, added, all)
+    let each = all_added (first ∷ more) in
+    omega (arith, counted, all, each)
 
 pub room_by_live : (now : ℕ) (peers : List Endpoint) (a : Relay) → IsRoomByLive now peers a
 room_by_live now peers a = record {
-  some = λ first more are. subst (λ (l : List Endpoint). length (with_permissions now l a.permissions) ≤ length (first ∷ more) + count_by (is_left now (first ∷ more)) a.permissions) (sym are) (some_room now first more a.permissions);
+  some = λ first more are. subst (λ (l : List Endpoint). length (with_permissions now l a.permissions) ≡ different (first ∷ more) + count_by (is_left now (first ∷ more)) a.permissions) (sym are) (some_room now first more a.permissions);
   none = λ are. ap (λ (l : List Endpoint). with_permissions now l a.permissions) are;
 }
 

@@ -1,7 +1,7 @@
 -- Which code refuses a request (RFC 8656, sections 5, 7.2, 8.2, 10.2 and 12.2), for each code in
 -- terms of the request and the state when it arrives. If several apply, the first in the order of
 -- these sections does.
-use Rattle.std.specs.Prelude.{◌==◌, ◌≡◌, ℕ, ◌<◌, ◌≤◌, ◌⊎◌, ◌↔◌, true, false, List, [], ◌∷◌, length, count_by, Option, None, Some, not, ◌&&◌, nat_lt, ◌+◌, Bool, filter}
+use Rattle.std.specs.Prelude.{◌==◌, ◌≡◌, ℕ, ◌<◌, ◌≤◌, ◌⊎◌, ◌↔◌, true, false, List, [], ◌∷◌, length, count_by, Option, None, Some, not, ◌&&◌, nat_lt, ◌+◌, Bool, filter, if◌then◌else◌}
 use Rattle.std.specs.List.{AllByRecursion, list_any}
 use Rattle.stun_endpoints.specs.declared.endpoints.Endpoint.{Endpoint}
 use Rattle.stun_endpoints.specs.declared.endpoints.FiveTuple.{FiveTuple}
@@ -198,12 +198,18 @@ pub record UnfitRefusals (setup : Setup) (rules : Rules) (state : State) (now : 
 abbrev pub is_left : ℕ → List Endpoint → Permission → Bool
 is_left now peers p = nat_lt now p.until && not (list_any (λ peer. is_ip peer.ip p.ip) peers)
 
+-- how many IP addresses a list of peers has
+abbrev pub different : List Endpoint → ℕ
+different [] = 0
+different (peer ∷ peers) =
+    (if list_any (λ other. is_ip peer.ip other.ip) peers then 0 else 1) + different peers
+
 -- for one relayed address, if the request names peers of its family, and if it names none
 pub record IsRoomByLive (now : ℕ) (peers : List Endpoint) (a : Relay) : Type 0 where
   pub some : (first : Endpoint) (more : List Endpoint)
       → filter (λ peer. peer.ip.family == a.family) peers ≡ first ∷ more
       → length (permissions_after now peers a)
-      ≤ length (first ∷ more) + count_by (is_left now (first ∷ more)) a.permissions
+      ≡ different (first ∷ more) + count_by (is_left now (first ∷ more)) a.permissions
   pub none : filter (λ peer. peer.ip.family == a.family) peers ≡ []
       → permissions_after now peers a ≡ a.permissions
 
