@@ -16,7 +16,8 @@ allows rules peer = rules.allows_ip peer.ip && rules.allows_port peer
 -- A Send indication needs a permission (11.2)
 abbrev pub sent : Setup → Rules → ℕ → Endpoint → (dont_fragment : Bool) → List ℕ → Relay → Output
 sent setup rules now peer dont_fragment bytes a =
-    if is_permitted now peer.ip a && (allows rules peer && (not dont_fragment || setup.supports_dont_fragment))
+    if is_permitted now peer.ip a
+    && (allows rules peer && (not dont_fragment || setup.supports_dont_fragment))
     then to_peer a.number peer dont_fragment bytes else nothing
 
 -- ChannelData needs a bound channel. Section 12.6 requires no permission

@@ -54,11 +54,17 @@ on n event reply =
 -- a nanosecond before the second
 abbrev pub before : ℕ → Event → Output → Case
 before n event reply =
-    record { timed = record { now = seconds n - 1; rules = peer_rules; event = event }; reply = reply }
+    record {
+      timed = record { now = seconds n - 1; rules = peer_rules; event = event };
+      reply = reply;
+    }
 
 abbrev pub under : ℕ → Event → Output → Case
 under n event reply =
-    record { timed = record { now = seconds n; rules = stricter_rules; event = event }; reply = reply }
+    record {
+      timed = record { now = seconds n; rules = stricter_rules; event = event };
+      reply = reply;
+    }
 
 abbrev pub asks_from : (n user : ℕ) → Request → Event
 asks_from n user request = asks (client n) user request
@@ -100,13 +106,15 @@ requests =
     ∷ on 3 (asks_from 11 alice (allocate 2 None (ipv4_want 31 ∷ []))) (no 11 437)
     ∷ on 3 (asks_from 11 alice (unfit_allocate 442)) (no 11 437)
     ∷ on 3 (asks_from 12 alice (allocate 1 None (ipv4_want 32 ∷ ipv6_want 32 ∷ [])))
-    (answers (client 12) (allocated (ipv4_given 1 32 ∷ []) 600 (record { family = 2; code = 508 } ∷ [])))
+    (answers (client 12) (allocated (ipv4_given 1 32 ∷ [])
+    600 (record { family = 2; code = 508 } ∷ [])))
     ∷ on 3 (asks_from 15 alice (allocate 5 None (ipv4_want 35 ∷ []))) (no 15 486)
     ∷ on 3 (asks_from 15 alice (allocate 5 None (record { family = 3; ready = None } ∷ [])))
     (no 15 440)
     ∷ on 3 (asks_from 13 bob
     (allocate 1 None (ipv4_want 33 ∷ record { family = 3; ready = None } ∷ [])))
-    (answers (client 13) (allocated (ipv4_given 2 33 ∷ []) 600 (record { family = 3; code = 440 } ∷ [])))
+    (answers (client 13) (allocated (ipv4_given 2 33 ∷ [])
+    600 (record { family = 3; code = 440 } ∷ [])))
     ∷ on 3 (asks_from 14 bob (allocate 1 None (ipv4_want 34 ∷ []))) (no 14 508)
     ∷ on 3 (asks_from 15 alice (allocate 5 None (ipv4_want 35 ∷ []))) (no 15 486)
     ∷ on 4 (asks_from 11 bob (refresh None None)) (no 11 441)
@@ -132,7 +140,8 @@ requests =
     ∷ on 6 (asks_from 11 alice (bind 0x4002 (address 23))) (no 11 508)
     ∷ on 6 (asks_from 11 alice (bind 0x4002 same_ip_other_port)) (no 11 508)
     ∷ on 7 (asks_from 12 alice (refresh None (Some 0))) (answers (client 12) (refreshed 0))
-    ∷ on 7 (asks_from 14 bob (allocate 1 None (ipv4_want 34 ∷ []))) (gets 14 (ipv4_given 3 34 ∷ []) 600)
+    ∷ on 7 (asks_from 14 bob (allocate 1 None (ipv4_want 34 ∷ [])))
+    (gets 14 (ipv4_given 3 34 ∷ []) 600)
     ∷ on 8 (ends_user bob) nothing
     ∷ on 8 (asks_from 13 bob (refresh None None)) (no 13 437)
     ∷ on 8 (asks_from 14 bob (refresh None None)) (no 14 437)
@@ -232,8 +241,10 @@ icmp_cases =
     ∷ on 2 (arrives 0 (ipv6_address 22) bytes) nothing
     ∷ on 2 (arrives 40 (ipv6_address 22) bytes) (to_client (client 11) (ipv6_address 22) bytes)
     ∷ on 2 (bounces 0 (address 22) (of_type 3)) nothing
-    ∷ on 2 (bounces 40 (ipv6_address 22) (of_type 1)) (to_client_icmp (client 11) (ipv6_address 22) (of_type 1))
-    ∷ on 2 (bounces 40 (ipv6_address 22) (of_type 2)) (to_client_icmp (client 11) (ipv6_address 22) (of_type 2))
+    ∷ on 2 (bounces 40 (ipv6_address 22) (of_type 1))
+    (to_client_icmp (client 11) (ipv6_address 22) (of_type 1))
+    ∷ on 2 (bounces 40 (ipv6_address 22) (of_type 2))
+    (to_client_icmp (client 11) (ipv6_address 22) (of_type 2))
     ∷ on 2 (bounces 40 (ipv6_address 22) (of_type 11)) nothing
     ∷ on 2 (bounces 41 (ipv6_address 22) (of_type 1)) nothing
     ∷ []
@@ -296,7 +307,8 @@ held_cases =
     ∷ held_on 8 (reserves (client 12) alice 5 None (ipv4_want 50) (pair_with 51) 80)
     (gets 12 (ipv4_given 3 50 ∷ []) 600) (Some 80)
     ∷ held_on 9 (ends_all 12) (answers (client 12) (refreshed 0)) None
-    ∷ held_on 9 (reserves (client 12) alice 6 None (ipv4_want 60) (pair_with 61) 81) (no 12 508) None
+    ∷ held_on 9 (reserves (client 12) alice 6 None (ipv4_want 60) (pair_with 61) 81)
+    (no 12 508) None
     ∷ held_before 36 (claims (client 12) alice 7 None 79) (gets 12 (ipv4_given 4 41 ∷ []) 600)
     ∷ held_on 37 (ends_all 12) (answers (client 12) (refreshed 0)) None
     ∷ held_on 38 (claims (client 12) alice 8 None 80) (no 12 508) None

@@ -203,8 +203,8 @@ all_missing setup tuple wants state =
     (filter (λ w. not (list_any (is_clients_in tuple w.family) state.relays)) wants)
 
 -- The state is unchanged. The lifetime is the whole seconds until the first of these addresses ends
-pub record IsRepeated (setup : Setup) (tuple : FiveTuple) (wants : List Want) (old : State) (s : Step)
-    : Type 0 where
+pub record IsRepeated (setup : Setup) (tuple : FiveTuple) (wants : List Want) (old : State)
+    (s : Step) : Type 0 where
   pub kept : s.state ≡ old
   pub left : ℕ
   pub output : s.output

@@ -132,7 +132,8 @@ IsRight setup earlier now rules event (answers tuple answer) =
     (user : ℕ) × (request : Request) × (event ≡ asks tuple user request)
 IsRight setup earlier now rules event (to_peer number peer dont_fragment bytes) =
     (tuple : FiveTuple) × ((rules.allows_ip peer.ip && rules.allows_port peer) ≡ true)
-    × (((event ≡ sends tuple peer dont_fragment bytes) × (dont_fragment ≡ true → setup.supports_dont_fragment ≡ true)
+    × (((event ≡ sends tuple peer dont_fragment bytes)
+    × (dont_fragment ≡ true → setup.supports_dont_fragment ≡ true)
     × IsWarranted earlier now tuple number peer (ArePermitting tuple peer now))
     ⊎ ((channel : ℕ) × (event ≡ sends_on tuple channel bytes) × (dont_fragment ≡ false)
     × IsWarranted earlier now tuple number peer (AreBinding tuple channel peer now)))
