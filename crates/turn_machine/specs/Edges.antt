@@ -5,7 +5,7 @@ use Rattle.std.specs.Prelude.{ℕ, zero, suc, ◌-◌, ◌==◌, ◌||◌, not, 
 use Rattle.stun_endpoints.specs.declared.endpoints.Endpoint.{Endpoint}
 use Rattle.stun_endpoints.specs.declared.endpoints.FiveTuple.{FiveTuple}
 use Rattle.turn_machine.specs.Relays.{seconds, Setup, Rules}
-use Rattle.turn_machine.specs.Events.{Request, allocate, unfit_allocate, refresh, permit, bind, unfit, permit_request, Event, asks, sends, sends_on, arrives, bounces, ends, ends_user, Icmp, Given, allocated, refreshed, done, refused, Output, answers, to_peer, to_client, to_client_on, to_client_icmp, nothing, Offer}
+use Rattle.turn_machine.specs.Events.{Want, Request, allocate, unfit_allocate, refresh, permit, bind, unfit, permit_request, Event, asks, sends, sends_on, arrives, bounces, ends, ends_user, Icmp, Given, allocated, refreshed, done, refused, Output, answers, to_peer, to_client, to_client_on, to_client_icmp, nothing, Offer}
 use Rattle.turn_machine.specs.Runs.{Timed, history}
 use Rattle.turn_machine.specs.Examples.{address, ipv6_address, client, ipv4_want, ipv6_want, ipv4_given, ipv6_given, alice, bob, outputs}
 
@@ -153,6 +153,13 @@ requests =
     ∷ on 8 (asks_from 11 alice (refresh None None)) (answers (client 11) (refreshed 600))
     ∷ before 608 (asks_from 11 alice (unfit 400)) (no 11 400)
     ∷ on 608 (asks_from 11 alice (unfit 400)) (no 11 437)
+    ∷ on 700 (asks_from 13 bob (allocate 3 None (ipv4_want 33 ∷ ipv6_want 33 ∷ [])))
+    (gets 13 (ipv6_given 42 33 ∷ ipv4_given 41 33 ∷ []) 600)
+    ∷ on 700 (asks_from 13 bob (bind 0x4000 (ipv6_address 21))) (yes 13)
+    ∷ on 700 (asks_from 13 bob (bind 0x4001 (ipv6_address 22))) (yes 13)
+    ∷ on 700 (asks_from 13 bob (bind 0x4002 (ipv6_address 22))) (no 13 400)
+    ∷ on 700 (asks_from 13 bob (bind 0x4002 (ipv6_address 23))) (no 13 508)
+    ∷ on 700 (asks_from 13 bob (bind 0x4002 (address 23))) (yes 13)
     ∷ []
 
 abbrev pub other_port : FiveTuple
@@ -238,6 +245,7 @@ icmp_cases =
     ∷ on 2 (bounces 0 (address 21) (of_type 11))
     (to_client_icmp (client 11) (address 21) (of_type 11))
     ∷ on 2 (bounces 0 (address 21) (of_type 8)) nothing
+    ∷ on 2 (arrives 0 (ipv6_address 21) bytes) nothing
     ∷ on 2 (arrives 0 (ipv6_address 22) bytes) nothing
     ∷ on 2 (arrives 40 (ipv6_address 22) bytes) (to_client (client 11) (ipv6_address 22) bytes)
     ∷ on 2 (bounces 0 (address 22) (of_type 3)) nothing
@@ -285,12 +293,21 @@ held_before n outer reply = record {
 abbrev pub pair_with : ℕ → Option Offer
 pair_with n = Some (record { number = 0; address = address n })
 
+abbrev pub unsupported_want : Want
+unsupported_want = record {
+  family = 3;
+  ready = Some (record { number = 0; address = address 30 });
+}
+
 abbrev pub ends_all : (n : ℕ) → Outer
 ends_all n = plain (asks (client n) alice (refresh None (Some 0)))
 
 abbrev pub held_cases : List HeldCase
 held_cases =
     held_on 1 (reserves (client 11) alice 1 None (ipv4_want 30) None 77) (no 11 508) None
+    ∷ held_on 1 (reserves (client 11) alice 1 None unsupported_want (pair_with 31) 76) (no 11 440)
+    None
+    ∷ held_on 1 (claims (client 12) alice 2 None 76) (no 12 508) None
     ∷ held_on 1 (reserves (client 11) alice 1 None (ipv4_want 30) (pair_with 31) 77)
     (gets 11 (ipv4_given 0 30 ∷ []) 600) (Some 77)
     ∷ held_on 1 (reserves (client 11) alice 1 None (ipv4_want 30) (pair_with 31) 99)
