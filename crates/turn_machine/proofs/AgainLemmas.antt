@@ -78,9 +78,9 @@ is_again_of tuple user id state again =
     some_any (λ a. is_owned tuple user a && (a.opened_by == id)) state.relays
     (some_map (λ a. (is_owned tuple user a ≡ true) × (a.opened_by ≡ id)) (λ a. (is_owned tuple user a && (a.opened_by == id)) ≡ true) (λ a both. and_from (is_owned tuple user a) (a.opened_by == id) both.0 (eq-eqb a.opened_by id both.1)) state.relays again)
 
-pub again_told : (setup : Setup) (rules : Rules) (tuple : FiveTuple) (user id : ℕ) (lifetime : Option ℕ) (wants : List Want) (state : State) → IsAgain tuple user id state → AllByRecursion (λ a. state.clock < a.until) state.relays
+pub again_granted : (setup : Setup) (rules : Rules) (tuple : FiveTuple) (user id : ℕ) (lifetime : Option ℕ) (wants : List Want) (state : State) → IsAgain tuple user id state → AllByRecursion (λ a. state.clock < a.until) state.relays
     → IsRepeated setup tuple wants state (serves setup rules tuple user (allocate id lifetime wants) state)
-again_told setup rules tuple user id lifetime wants state again live =
+again_granted setup rules tuple user id lifetime wants state again live =
     let r = allocate id lifetime wants in
     let is = is_again_of tuple user id state again in
     subst (IsRepeated setup tuple wants state) (sym (cond-true (is_again tuple user r state) (keeping state (answers_again setup tuple r state)) (serves_new setup rules tuple user r state) is))

@@ -136,16 +136,16 @@ fault_same setup rules tuple user (bind number peer) c n m one other isnt same =
     let bound = is_bound_otherwise c tuple number peer in
     let lacks = lacks_permissions setup c tuple user (peer ∷ []) in
     let lacks_one = lacks_channels setup c tuple user number peer in
-    let e1 = same_any tuple bound (λ a off. left_false (is_of tuple a) (list_any (clashes c number peer) a.channels) off) one other same in
-    let e2 = same_any tuple (is_for tuple peer.ip.family) (for_ours tuple peer.ip.family) one other same in
-    let e3 = same_any tuple lacks (his_ours tuple user (λ a. nat_lt setup.most_permissions (length (permissions_after c (peer ∷ []) a)))) one other same in
-    let e4 = same_any tuple lacks_one (his_ours tuple user (λ a. (peer.ip.family == a.family) && nat_lt setup.most_channels (length (with_channel c number peer a.channels)))) one other same in
+    let bound_same = same_any tuple bound (λ a off. left_false (is_of tuple a) (list_any (clashes c number peer) a.channels) off) one other same in
+    let family_same = same_any tuple (is_for tuple peer.ip.family) (for_ours tuple peer.ip.family) one other same in
+    let permissions_same = same_any tuple lacks (his_ours tuple user (λ a. nat_lt setup.most_permissions (length (permissions_after c (peer ∷ []) a)))) one other same in
+    let channels_same = same_any tuple lacks_one (his_ours tuple user (λ a. (peer.ip.family == a.family) && nat_lt setup.most_channels (length (with_channel c number peer a.channels)))) one other same in
     own_same (list_any (is_of tuple) one) (list_any (is_of tuple) other) (list_any (is_of_another tuple user) one) (list_any (is_of_another tuple user) other) (bind_rows setup rules (Made c n one) tuple user number peer) (bind_rows setup rules (Made c m other) tuple user number peer)
     (same_any tuple (is_of tuple) (λ a off. off) one other same) (same_any tuple (is_of_another tuple user) (anothers_ours tuple user) one other same)
-    (ap (λ (x : Bool). row (not number_is) 400 (row x 400 (row (not (list_any (is_for tuple peer.ip.family) one)) 443 (row (not allowed) 403 (row (list_any lacks one || list_any lacks_one one) 508 None))))) e1
-    ∙ (ap (λ (x : Bool). row (not number_is) 400 (row (list_any bound other) 400 (row (not x) 443 (row (not allowed) 403 (row (list_any lacks one || list_any lacks_one one) 508 None))))) e2
-    ∙ (ap (λ (x : Bool). row (not number_is) 400 (row (list_any bound other) 400 (row (not (list_any (is_for tuple peer.ip.family) other)) 443 (row (not allowed) 403 (row (x || list_any lacks_one one) 508 None))))) e3
-    ∙ ap (λ (x : Bool). row (not number_is) 400 (row (list_any bound other) 400 (row (not (list_any (is_for tuple peer.ip.family) other)) 443 (row (not allowed) 403 (row (list_any lacks other || x) 508 None))))) e4)))
+    (ap (λ (x : Bool). row (not number_is) 400 (row x 400 (row (not (list_any (is_for tuple peer.ip.family) one)) 443 (row (not allowed) 403 (row (list_any lacks one || list_any lacks_one one) 508 None))))) bound_same
+    ∙ (ap (λ (x : Bool). row (not number_is) 400 (row (list_any bound other) 400 (row (not x) 443 (row (not allowed) 403 (row (list_any lacks one || list_any lacks_one one) 508 None))))) family_same
+    ∙ (ap (λ (x : Bool). row (not number_is) 400 (row (list_any bound other) 400 (row (not (list_any (is_for tuple peer.ip.family) other)) 443 (row (not allowed) 403 (row (x || list_any lacks_one one) 508 None))))) permissions_same
+    ∙ ap (λ (x : Bool). row (not number_is) 400 (row (list_any bound other) 400 (row (not (list_any (is_for tuple peer.ip.family) other)) 443 (row (not allowed) 403 (row (list_any lacks other || x) 508 None))))) channels_same)))
 fault_same setup rules tuple user (unfit code) c n m one other isnt same =
     own_same (list_any (is_of tuple) one) (list_any (is_of tuple) other) (list_any (is_of_another tuple user) one) (list_any (is_of_another tuple user) other) (Some code) (Some code)
     (same_any tuple (is_of tuple) (λ a off. off) one other same) (same_any tuple (is_of_another tuple user) (anothers_ours tuple user) one other same) refl

@@ -186,23 +186,23 @@ pub refresh_refusals : (setup : Setup) (rules : Rules) (state : State) (now : �
 refresh_refusals setup rules state now tuple user family lifetime =
     let s = at now state in
     let r = refresh family lifetime in
-    let t1 = not (has_any tuple s) in
-    let t2 = has_of_another tuple user s in
-    let t3 = not (has_wanted tuple family s) in
+    let first = not (has_any tuple s) in
+    let second = has_of_another tuple user s in
+    let third = not (has_wanted tuple family s) in
     record {
       mismatch = (
-        λ e. free tuple s (not_yes (has_any tuple s) (refresh_437_is t1 t2 t3 (refused_for setup rules tuple user r s 437 e).fault_is)),
-        λ is. for_refused setup rules tuple user r s 437 (record { new = refl; fault_is = refresh_437_if t1 t2 t3 (ap not (free_has tuple s is)) }),
+        λ e. free tuple s (not_yes (has_any tuple s) (refresh_437_is first second third (refused_for setup rules tuple user r s 437 e).fault_is)),
+        λ is. for_refused setup rules tuple user r s 437 (record { new = refl; fault_is = refresh_437_if first second third (ap not (free_has tuple s is)) }),
       );
       wrong_user = (
-        λ e. anothers tuple user s (refresh_441_is t1 t2 t3 (refused_for setup rules tuple user r s 441 e).fault_is).1,
-        λ is. for_refused setup rules tuple user r s 441 (record { new = refl; fault_is = refresh_441_if t1 t2 t3 (anothers_has tuple user s is) (anothers_is tuple user s is) }),
+        λ e. anothers tuple user s (refresh_441_is first second third (refused_for setup rules tuple user r s 441 e).fault_is).1,
+        λ is. for_refused setup rules tuple user r s 441 (record { new = refl; fault_is = refresh_441_if first second third (anothers_has tuple user s is) (anothers_is tuple user s is) }),
       );
       family_mismatch = (
-        λ e. let p = refresh_443_is t1 t2 t3 (refused_for setup rules tuple user r s 443 e).fault_is in (own tuple user s (not_no (has_any tuple s) p.0) p.1, uncovered tuple family s p.2),
-        λ is. for_refused setup rules tuple user r s 443 (record { new = refl; fault_is = refresh_443_if t1 t2 t3 (own_has tuple user s is.0) (own_his tuple user s is.0) (is_uncovered tuple family s is.1) }),
+        λ e. let p = refresh_443_is first second third (refused_for setup rules tuple user r s 443 e).fault_is in (own tuple user s (not_no (has_any tuple s) p.0) p.1, uncovered tuple family s p.2),
+        λ is. for_refused setup rules tuple user r s 443 (record { new = refl; fault_is = refresh_443_if first second third (own_has tuple user s is.0) (own_his tuple user s is.0) (is_uncovered tuple family s is.1) }),
       );
-      no_other = λ code e. refresh_codes t1 t2 t3 code (refused_for setup rules tuple user r s code e).fault_is;
+      no_other = λ code e. refresh_codes first second third code (refused_for setup rules tuple user r s code e).fault_is;
     }
 
 -- ---- CreatePermission
@@ -212,42 +212,42 @@ permit_refusals setup rules state now tuple user peers =
     let s = at now state in
     let r = permit peers in
     let allowed = λ (peer : Endpoint). rules.allows_ip peer.ip in
-    let t1 = not (has_any tuple s) in
-    let t2 = has_of_another tuple user s in
-    let t3 = not (have_families tuple peers s) in
-    let t4 = not (list_all allowed peers) in
-    let t5 = list_any (lacks_permissions setup s.clock tuple user peers) s.relays in
+    let first = not (has_any tuple s) in
+    let second = has_of_another tuple user s in
+    let third = not (have_families tuple peers s) in
+    let fourth = not (list_all allowed peers) in
+    let fifth = list_any (lacks_permissions setup s.clock tuple user peers) s.relays in
     record {
       mismatch = (
-        λ e. free tuple s (not_yes (has_any tuple s) (permit_437_is t1 t2 t3 t4 t5 (refused_for setup rules tuple user r s 437 e).fault_is)),
-        λ is. for_refused setup rules tuple user r s 437 (record { new = refl; fault_is = permit_437_if t1 t2 t3 t4 t5 (ap not (free_has tuple s is)) }),
+        λ e. free tuple s (not_yes (has_any tuple s) (permit_437_is first second third fourth fifth (refused_for setup rules tuple user r s 437 e).fault_is)),
+        λ is. for_refused setup rules tuple user r s 437 (record { new = refl; fault_is = permit_437_if first second third fourth fifth (ap not (free_has tuple s is)) }),
       );
       wrong_user = (
-        λ e. anothers tuple user s (permit_441_is t1 t2 t3 t4 t5 (refused_for setup rules tuple user r s 441 e).fault_is).1,
-        λ is. for_refused setup rules tuple user r s 441 (record { new = refl; fault_is = permit_441_if t1 t2 t3 t4 t5 (anothers_has tuple user s is) (anothers_is tuple user s is) }),
+        λ e. anothers tuple user s (permit_441_is first second third fourth fifth (refused_for setup rules tuple user r s 441 e).fault_is).1,
+        λ is. for_refused setup rules tuple user r s 441 (record { new = refl; fault_is = permit_441_if first second third fourth fifth (anothers_has tuple user s is) (anothers_is tuple user s is) }),
       );
       family_mismatch = (
         λ e.
-            let p = permit_443_is t1 t2 t3 t4 t5 (refused_for setup rules tuple user r s 443 e).fault_is in
+            let p = permit_443_is first second third fourth fifth (refused_for setup rules tuple user r s 443 e).fault_is in
             (own tuple user s (not_no (has_any tuple s) p.0) p.1, family_lacks tuple peers s (not_yes (have_families tuple peers s) p.2)),
-        λ is. for_refused setup rules tuple user r s 443 (record { new = refl; fault_is = permit_443_if t1 t2 t3 t4 t5 (own_has tuple user s is.0) (own_his tuple user s is.0) (ap not (lacks_family tuple peers s is.1)) }),
+        λ is. for_refused setup rules tuple user r s 443 (record { new = refl; fault_is = permit_443_if first second third fourth fifth (own_has tuple user s is.0) (own_his tuple user s is.0) (ap not (lacks_family tuple peers s is.1)) }),
       );
       forbidden = (
         λ e.
-            let p = permit_403_is t1 t2 t3 t4 t5 (refused_for setup rules tuple user r s 403 e).fault_is in
+            let p = permit_403_is first second third fourth fifth (refused_for setup rules tuple user r s 403 e).fault_is in
             (own tuple user s (not_no (has_any tuple s) p.0) p.1, families tuple peers s (not_no (have_families tuple peers s) p.2), not_all_some allowed peers (not_yes (list_all allowed peers) p.3)),
-        λ is. for_refused setup rules tuple user r s 403 (record { new = refl; fault_is = permit_403_if t1 t2 t3 t4 t5 (own_has tuple user s is.0) (own_his tuple user s is.0) (ap not (families_has tuple peers s is.1)) (ap not (some_not_all allowed peers is.2)) }),
+        λ is. for_refused setup rules tuple user r s 403 (record { new = refl; fault_is = permit_403_if first second third fourth fifth (own_has tuple user s is.0) (own_his tuple user s is.0) (ap not (families_has tuple peers s is.1)) (ap not (some_not_all allowed peers is.2)) }),
       );
       unable = (
         λ e.
-            let p = permit_508_is t1 t2 t3 t4 t5 (refused_for setup rules tuple user r s 508 e).fault_is in
+            let p = permit_508_is first second third fourth fifth (refused_for setup rules tuple user r s 508 e).fault_is in
             (own tuple user s (not_no (has_any tuple s) p.0) p.1, families tuple peers s (not_no (have_families tuple peers s) p.2), all_each allowed peers (not_no (list_all allowed peers) p.3), no_permissions setup tuple user peers s p.4),
         λ is. for_refused setup rules tuple user r s 508 (record {
           new = refl;
-          fault_is = permit_508_if t1 t2 t3 t4 t5 (own_has tuple user s is.0) (own_his tuple user s is.0) (ap not (families_has tuple peers s is.1)) (ap not (each_all allowed peers is.2)) (permissions_lack setup tuple user peers s is.3);
+          fault_is = permit_508_if first second third fourth fifth (own_has tuple user s is.0) (own_his tuple user s is.0) (ap not (families_has tuple peers s is.1)) (ap not (each_all allowed peers is.2)) (permissions_lack setup tuple user peers s is.3);
         }),
       );
-      no_other = λ code e. permit_codes t1 t2 t3 t4 t5 code (refused_for setup rules tuple user r s code e).fault_is;
+      no_other = λ code e. permit_codes first second third fourth fifth code (refused_for setup rules tuple user r s code e).fault_is;
     }
 
 -- ---- ChannelBind
@@ -269,58 +269,58 @@ pub bind_refusals : (setup : Setup) (rules : Rules) (state : State) (now : ℕ) 
 bind_refusals setup rules state now tuple user number peer =
     let s = at now state in
     let r = bind number peer in
-    let t1 = not (has_any tuple s) in
-    let t2 = has_of_another tuple user s in
-    let t3 = not (is_channel_number setup number) in
-    let t4 = list_any (is_bound_otherwise s.clock tuple number peer) s.relays in
-    let t5 = not (has_of tuple peer.ip.family s) in
-    let t6 = not (rules.allows_ip peer.ip && rules.allows_port peer) in
-    let t7 = list_any (lacks_permissions setup s.clock tuple user (peer ∷ [])) s.relays || list_any (lacks_channels setup s.clock tuple user number peer) s.relays in
+    let first = not (has_any tuple s) in
+    let second = has_of_another tuple user s in
+    let third = not (is_channel_number setup number) in
+    let fourth = list_any (is_bound_otherwise s.clock tuple number peer) s.relays in
+    let fifth = not (has_of tuple peer.ip.family s) in
+    let sixth = not (rules.allows_ip peer.ip && rules.allows_port peer) in
+    let seventh = list_any (lacks_permissions setup s.clock tuple user (peer ∷ [])) s.relays || list_any (lacks_channels setup s.clock tuple user number peer) s.relays in
     record {
       mismatch = (
-        λ e. free tuple s (not_yes (has_any tuple s) (bind_437_is t1 t2 t3 t4 t5 t6 t7 (refused_for setup rules tuple user r s 437 e).fault_is)),
-        λ is. for_refused setup rules tuple user r s 437 (record { new = refl; fault_is = bind_437_if t1 t2 t3 t4 t5 t6 t7 (ap not (free_has tuple s is)) }),
+        λ e. free tuple s (not_yes (has_any tuple s) (bind_437_is first second third fourth fifth sixth seventh (refused_for setup rules tuple user r s 437 e).fault_is)),
+        λ is. for_refused setup rules tuple user r s 437 (record { new = refl; fault_is = bind_437_if first second third fourth fifth sixth seventh (ap not (free_has tuple s is)) }),
       );
       wrong_user = (
-        λ e. anothers tuple user s (bind_441_is t1 t2 t3 t4 t5 t6 t7 (refused_for setup rules tuple user r s 441 e).fault_is).1,
-        λ is. for_refused setup rules tuple user r s 441 (record { new = refl; fault_is = bind_441_if t1 t2 t3 t4 t5 t6 t7 (anothers_has tuple user s is) (anothers_is tuple user s is) }),
+        λ e. anothers tuple user s (bind_441_is first second third fourth fifth sixth seventh (refused_for setup rules tuple user r s 441 e).fault_is).1,
+        λ is. for_refused setup rules tuple user r s 441 (record { new = refl; fault_is = bind_441_if first second third fourth fifth sixth seventh (anothers_has tuple user s is) (anothers_is tuple user s is) }),
       );
       bad_number = (
         λ e.
-            let p = bind_400_is t1 t2 t3 t4 t5 t6 t7 (refused_for setup rules tuple user r s 400 e).fault_is in
+            let p = bind_400_is first second third fourth fifth sixth seventh (refused_for setup rules tuple user r s 400 e).fault_is in
             (own tuple user s (not_no (has_any tuple s) p.0) p.1, bad setup tuple number peer s p.2),
-        λ is. for_refused setup rules tuple user r s 400 (record { new = refl; fault_is = bind_400_if t1 t2 t3 t4 t5 t6 t7 (own_has tuple user s is.0) (own_his tuple user s is.0) (is_bad setup tuple number peer s is.1) }),
+        λ is. for_refused setup rules tuple user r s 400 (record { new = refl; fault_is = bind_400_if first second third fourth fifth sixth seventh (own_has tuple user s is.0) (own_his tuple user s is.0) (is_bad setup tuple number peer s is.1) }),
       );
       family_mismatch = (
         λ e.
-            let p = bind_443_is t1 t2 t3 t4 t5 t6 t7 (refused_for setup rules tuple user r s 443 e).fault_is in
+            let p = bind_443_is first second third fourth fifth sixth seventh (refused_for setup rules tuple user r s 443 e).fault_is in
             (own tuple user s (not_no (has_any tuple s) p.0) p.1, good setup tuple number peer s p.2 p.3, any_none (is_for tuple peer.ip.family) s.relays (not_yes (has_of tuple peer.ip.family s) p.4)),
         λ is. for_refused setup rules tuple user r s 443 (record {
           new = refl;
-          fault_is = bind_443_if t1 t2 t3 t4 t5 t6 t7 (own_has tuple user s is.0) (own_his tuple user s is.0) (good_is setup tuple number peer s is.1) (good_free setup tuple number peer s is.1) (ap not (none_any (is_for tuple peer.ip.family) s.relays is.2));
+          fault_is = bind_443_if first second third fourth fifth sixth seventh (own_has tuple user s is.0) (own_his tuple user s is.0) (good_is setup tuple number peer s is.1) (good_free setup tuple number peer s is.1) (ap not (none_any (is_for tuple peer.ip.family) s.relays is.2));
         }),
       );
       forbidden = (
         λ e.
-            let p = bind_403_is t1 t2 t3 t4 t5 t6 t7 (refused_for setup rules tuple user r s 403 e).fault_is in
+            let p = bind_403_is first second third fourth fifth sixth seventh (refused_for setup rules tuple user r s 403 e).fault_is in
             (own tuple user s (not_no (has_any tuple s) p.0) p.1, good setup tuple number peer s p.2 p.3, any_some (is_for tuple peer.ip.family) s.relays (not_no (has_of tuple peer.ip.family s) p.4), not_yes (allows rules peer) p.5),
         λ is. for_refused setup rules tuple user r s 403 (record {
           new = refl;
-          fault_is = bind_403_if t1 t2 t3 t4 t5 t6 t7 (own_has tuple user s is.0) (own_his tuple user s is.0) (good_is setup tuple number peer s is.1) (good_free setup tuple number peer s is.1)
+          fault_is = bind_403_if first second third fourth fifth sixth seventh (own_has tuple user s is.0) (own_his tuple user s is.0) (good_is setup tuple number peer s is.1) (good_free setup tuple number peer s is.1)
               (ap not (some_any (is_for tuple peer.ip.family) s.relays is.2)) (ap not is.3);
         }),
       );
       unable = (
         λ e.
-            let p = bind_508_is t1 t2 t3 t4 t5 t6 t7 (refused_for setup rules tuple user r s 508 e).fault_is in
+            let p = bind_508_is first second third fourth fifth sixth seventh (refused_for setup rules tuple user r s 508 e).fault_is in
             (own tuple user s (not_no (has_any tuple s) p.0) p.1, good setup tuple number peer s p.2 p.3, any_some (is_for tuple peer.ip.family) s.relays (not_no (has_of tuple peer.ip.family s) p.4), not_no (allows rules peer) p.5, lacks_either setup tuple user number peer s p.6),
         λ is. for_refused setup rules tuple user r s 508 (record {
           new = refl;
-          fault_is = bind_508_if t1 t2 t3 t4 t5 t6 t7 (own_has tuple user s is.0) (own_his tuple user s is.0) (good_is setup tuple number peer s is.1) (good_free setup tuple number peer s is.1)
+          fault_is = bind_508_if first second third fourth fifth sixth seventh (own_has tuple user s is.0) (own_his tuple user s is.0) (good_is setup tuple number peer s is.1) (good_free setup tuple number peer s is.1)
               (ap not (some_any (is_for tuple peer.ip.family) s.relays is.2)) (ap not is.3) (either_lacks setup tuple user number peer s is.4);
         }),
       );
-      no_other = λ code e. bind_codes t1 t2 t3 t4 t5 t6 t7 code (refused_for setup rules tuple user r s code e).fault_is;
+      no_other = λ code e. bind_codes first second third fourth fifth sixth seventh code (refused_for setup rules tuple user r s code e).fault_is;
     }
 
 -- ---- Allocate
@@ -353,33 +353,33 @@ allocate_refusals setup rules state now tuple user id lifetime wants =
     let s = at now state in
     let r = allocate id lifetime wants in
     let count = count_by (is_users user) s.relays in
-    let t1 = has_any tuple s in
-    let t2 = not (list_any (is_offered setup) wants) in
-    let t3 = not (has_quota setup user s) in
-    let t4 = not (has_room setup s) in
-    let t5 = not (list_any (is_ready setup) wants) in
+    let first = has_any tuple s in
+    let second = not (list_any (is_offered setup) wants) in
+    let third = not (has_quota setup user s) in
+    let fourth = not (has_room setup s) in
+    let fifth = not (list_any (is_ready setup) wants) in
     let new = λ (is : IsFree tuple s). free_again tuple user id s.relays is in
     record {
       mismatch = (
-        λ e. let f = refused_for setup rules tuple user r s 437 e in (any_some (is_of tuple) s.relays (allocate_437_is t1 t2 t3 t4 t5 f.fault_is), again_of tuple user id s f.new),
-        λ is. for_refused setup rules tuple user r s 437 (record { new = not_again tuple user id s is.1; fault_is = allocate_437_if t1 t2 t3 t4 t5 (some_any (is_of tuple) s.relays is.0) }),
+        λ e. let f = refused_for setup rules tuple user r s 437 e in (any_some (is_of tuple) s.relays (allocate_437_is first second third fourth fifth f.fault_is), again_of tuple user id s f.new),
+        λ is. for_refused setup rules tuple user r s 437 (record { new = not_again tuple user id s is.1; fault_is = allocate_437_if first second third fourth fifth (some_any (is_of tuple) s.relays is.0) }),
       );
       no_family = (
-        λ e. let p = allocate_440_is t1 t2 t3 t4 t5 (refused_for setup rules tuple user r s 440 e).fault_is in (free tuple s p.0, any_none (is_offered setup) wants (not_yes (list_any (is_offered setup) wants) p.1)),
-        λ is. for_refused setup rules tuple user r s 440 (record { new = new is.0; fault_is = allocate_440_if t1 t2 t3 t4 t5 (free_has tuple s is.0) (ap not (none_any (is_offered setup) wants is.1)) }),
+        λ e. let p = allocate_440_is first second third fourth fifth (refused_for setup rules tuple user r s 440 e).fault_is in (free tuple s p.0, any_none (is_offered setup) wants (not_yes (list_any (is_offered setup) wants) p.1)),
+        λ is. for_refused setup rules tuple user r s 440 (record { new = new is.0; fault_is = allocate_440_if first second third fourth fifth (free_has tuple s is.0) (ap not (none_any (is_offered setup) wants is.1)) }),
       );
       over_quota = (
         λ e.
-            let p = allocate_486_is t1 t2 t3 t4 t5 (refused_for setup rules tuple user r s 486 e).fault_is in
+            let p = allocate_486_is first second third fourth fifth (refused_for setup rules tuple user r s 486 e).fault_is in
             record { free = free tuple s p.0; family = any_some (is_offered setup) wants (not_no (list_any (is_offered setup) wants) p.1); quota = ltb-false count setup.most_of_user (not_yes (has_quota setup user s) p.2) },
         λ is. for_refused setup rules tuple user r s 486 (record {
           new = new is.free;
-          fault_is = allocate_486_if t1 t2 t3 t4 t5 (free_has tuple s is.free) (ap not (some_any (is_offered setup) wants is.family)) (ap not (le-ltb count setup.most_of_user is.quota));
+          fault_is = allocate_486_if first second third fourth fifth (free_has tuple s is.free) (ap not (some_any (is_offered setup) wants is.family)) (ap not (le-ltb count setup.most_of_user is.quota));
         }),
       );
       unable = (
         λ e.
-            let p = allocate_508_is t1 t2 t3 t4 t5 (refused_for setup rules tuple user r s 508 e).fault_is in
+            let p = allocate_508_is first second third fourth fifth (refused_for setup rules tuple user r s 508 e).fault_is in
             record {
               free = free tuple s p.0;
               family = any_some (is_offered setup) wants (not_no (list_any (is_offered setup) wants) p.1);
@@ -388,10 +388,10 @@ allocate_refusals setup rules state now tuple user id lifetime wants =
             },
         λ is. for_refused setup rules tuple user r s 508 (record {
           new = new is.free;
-          fault_is = allocate_508_if t1 t2 t3 t4 t5 (free_has tuple s is.free) (ap not (some_any (is_offered setup) wants is.family)) (ap not (lt-ltb count setup.most_of_user is.quota)) (room_lacks setup wants s is.lacks);
+          fault_is = allocate_508_if first second third fourth fifth (free_has tuple s is.free) (ap not (some_any (is_offered setup) wants is.family)) (ap not (lt-ltb count setup.most_of_user is.quota)) (room_lacks setup wants s is.lacks);
         }),
       );
-      no_other = λ code e. allocate_codes t1 t2 t3 t4 t5 code (refused_for setup rules tuple user r s code e).fault_is;
+      no_other = λ code e. allocate_codes first second third fourth fifth code (refused_for setup rules tuple user r s code e).fault_is;
     }
 
 -- ---- Requests that are unfit

@@ -48,18 +48,17 @@
 //! with the law that refuses it.
 #![tactic(auto)]
 
-ghost use Rattle.std.specs.Prelude.{◌≡◌, ◌↔◌, ◌≢◌, ◌&&◌, ◌<◌, ◌≤◌, ◌⊎◌, ◌*◌, ◌+◌, ◌==◌, ℕ, Bool, List, [], ◌∷◌, ◌++◌, length, map, count_by, filter, not, nat_lt, max, min, Option, None, Some, true, false, if◌then◌else◌};
+ghost use Rattle.std.specs.Prelude.{◌≡◌, ◌↔◌, ◌&&◌, ◌<◌, ◌≤◌, ◌⊎◌, ◌*◌, ◌+◌, ◌==◌, ℕ, Bool, List, [], ◌∷◌, ◌++◌, length, map, count_by, filter, not, nat_lt, max, min, Option, None, Some, true, false, if◌then◌else◌};
 ghost use Rattle.std.specs.List.{AllByRecursion};
 ghost use Rattle.turn_machine.specs.Lists.{times};
 ghost use Rattle.stun_endpoints.specs.declared.endpoints.Ip.{Ip};
 ghost use Rattle.stun_endpoints.specs.declared.endpoints.Endpoint.{Endpoint};
 ghost use Rattle.stun_endpoints.specs.declared.endpoints.FiveTuple.{FiveTuple};
 ghost use Rattle.stun_endpoints.specs.Endpoints.{is_ip, is_endpoint, is_tuple};
-ghost use Rattle.turn_machine.specs.Relays.{seconds, Permission, Channel, Relay, Setup, Rules, State};
+ghost use Rattle.turn_machine.specs.Relays.{seconds, Channel, Relay, Setup, Rules, State};
 ghost use Rattle.turn_machine.specs.Events.{Event, ticks, Icmp, Offer, Want, sends, sends_on, bounces, to_peer, to_client, to_client_on, to_client_icmp, allocate, refresh, permit, bind, unfit, permit_request, asks, arrives, allocated, refused, answers, nothing};
 ghost use Rattle.turn_machine.specs.Times.{at, over_at, granted_for, refreshed_for};
-ghost use Rattle.turn_machine.specs.Opening.{opened, with_relay};
-ghost use Rattle.turn_machine.specs.Steps.{keeping, step};
+ghost use Rattle.turn_machine.specs.Steps.{step};
 ghost use Rattle.turn_machine.specs.Runs.{Timed, run, history, happening};
 ghost use Rattle.turn_machine.specs.Granting.{IsFree, Has, IsOwn, IsFit, IsOpened, given_of, IsCovered, CanPermit, CanBind, IsRefreshed, ArePermitted, IsBound, IsRepeated};
 ghost use Rattle.turn_machine.specs.Refusals.{IsAgain, IsUnready, AllocateRefusals, RefreshRefusals, PermitRefusals, BindRefusals, UnfitRefusals, IsRoomByLive, IsChannelRoomByLive};

@@ -2,7 +2,7 @@ use Rattle.std.proofs.Common.{◌<◌, ap, refl, ltb-true}
 use Rattle.std.specs.Prelude.{max}
 use Rattle.turn_machine.specs.Relays.{seconds, is_live}
 use Rattle.turn_machine.specs.Runs.{run}
-use Rattle.turn_machine.proofs.AgainLemmas.{again_told}
+use Rattle.turn_machine.proofs.AgainLemmas.{again_granted}
 use Rattle.turn_machine.proofs.ListsLemmas.{each_filtered}
 use Rattle.turn_machine.proofs.KeptLemmas.{run_live}
 use Rattle.turn_machine.specs.Times.{at, over_at, granted_for, refreshed_for}
@@ -60,7 +60,7 @@ returns-clause-bound c = λ setup rules state now tuple user number peer can.
 pub returns-clause-again : goal.returns-clause-again
 returns-clause-again c = λ setup rules events now tuple user id lifetime wants again.
     let state = run setup events in
-    let reply = again_told setup rules tuple user id lifetime wants (at now state) again
+    let reply = again_granted setup rules tuple user id lifetime wants (at now state) again
     (each_filtered (λ a. state.clock < a.until) (λ a. max state.clock now < a.until) (is_live (max state.clock now)) (λ a live _. ltb-true (max state.clock now) a.until live) state.relays (run_live setup events)) in
     record { kept = reply.kept; left = reply.left; output = reply.output; none_before = reply.none_before; one_within = reply.one_within }
 
