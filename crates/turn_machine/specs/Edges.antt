@@ -153,8 +153,12 @@ requests =
     ∷ on 8 (asks_from 11 alice (refresh None None)) (answers (client 11) (refreshed 600))
     ∷ before 608 (asks_from 11 alice (unfit 400)) (no 11 400)
     ∷ on 608 (asks_from 11 alice (unfit 400)) (no 11 437)
+    ∷ on 700 (asks_from 12 alice
+    (allocate 9 None (record { family = 1; ready = None } ∷ ipv6_want 32 ∷ [])))
+    (answers (client 12) (allocated (ipv6_given 41 32 ∷ []) 600
+    (record { family = 1; code = 508 } ∷ [])))
     ∷ on 700 (asks_from 13 bob (allocate 3 None (ipv4_want 33 ∷ ipv6_want 33 ∷ [])))
-    (gets 13 (ipv6_given 42 33 ∷ ipv4_given 41 33 ∷ []) 600)
+    (gets 13 (ipv6_given 43 33 ∷ ipv4_given 42 33 ∷ []) 600)
     ∷ on 700 (asks_from 13 bob (bind 0x4000 (ipv6_address 21))) (yes 13)
     ∷ on 700 (asks_from 13 bob (bind 0x4001 (ipv6_address 22))) (yes 13)
     ∷ on 700 (asks_from 13 bob (bind 0x4002 (ipv6_address 22))) (no 13 400)

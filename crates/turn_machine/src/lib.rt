@@ -112,10 +112,11 @@ pub fn places_are_for_the_live()
 /// In every state a fit request is granted exactly what it asks for. An Allocate request from a 5-tuple with
 /// no allocation, by a user below its quota, with room and a socket, opens one relayed address and changes
 /// nothing else; with ADDITIONAL-ADDRESS-FAMILY two, or the one that is possible with the reason for the
-/// other: 440 if the server doesn't support the family, 508 if the caller has no socket for it. A Refresh
-/// request sets the end, or ends what it is for and reports it. CreatePermission permits each peer for 300
-/// seconds; ChannelBind binds for 600 and permits for 300. Other clients' relayed addresses stay as they
-/// are. An Allocate request that comes again is answered with all that the client has, and changes nothing.
+/// other: 440 if the server doesn't support the family, 508 if the caller has no socket for it or if quota
+/// or room leave one place. A Refresh request sets the end, or ends what it is for and reports it.
+/// CreatePermission permits each peer for 300 seconds; ChannelBind binds for 600 and permits for 300. Other
+/// clients' relayed addresses stay as they are. An Allocate request that comes again is answered with all
+/// that the client has, and changes nothing.
 pub fn fit_is_granted()
     ensures one { (setup : Setup) (rules : Rules) (state : State) (now : ℕ) (tuple : FiveTuple)
         (user id : ℕ) (lifetime : Option ℕ) (want : Want) (offer : Offer)
@@ -151,9 +152,23 @@ pub fn fit_is_granted()
         let code = if setup.has_family other.family then 508 else 440 in
         IsFit setup tuple user want offer s → (want.family == other.family) ≡ false
         → (setup.has_family other.family ≡ false) ⊎ (other.ready ≡ None)
+        ⊎ (setup.most_of_user ≤ count_by (λ a. a.user == user) s.relays + 1)
+        ⊎ (setup.most_relays ≤ length s.relays + 1)
         → (a : Relay) × IsOpened tuple user id until want.family offer s done.state a
         × (done.output ≡ answers tuple (allocated (given_of a ∷ []) granted
         (record { family = other.family; code = code } ∷ []))) }
+    ensures second_of_two { (setup : Setup) (rules : Rules) (state : State) (now : ℕ)
+        (tuple : FiveTuple) (user id : ℕ) (lifetime : Option ℕ) (want other : Want) (offer : Offer)
+        → let s = at now state in let granted = granted_for lifetime setup.greatest_lifetime in
+        let until = s.clock + seconds granted in
+        let done = step setup rules state now
+        (asks tuple user (allocate id lifetime (want ∷ other ∷ []))) in
+        let code = if setup.has_family want.family then 508 else 440 in
+        IsFit setup tuple user other offer s → (other.family == want.family) ≡ false
+        → (setup.has_family want.family ≡ false) ⊎ (want.ready ≡ None)
+        → (a : Relay) × IsOpened tuple user id until other.family offer s done.state a
+        × (done.output ≡ answers tuple (allocated (given_of a ∷ []) granted
+        (record { family = want.family; code = code } ∷ []))) }
     ensures refreshed { (setup : Setup) (rules : Rules) (state : State) (now : ℕ)
         (tuple : FiveTuple) (user : ℕ) (family lifetime : Option ℕ)
         → IsOwn tuple user (at now state)

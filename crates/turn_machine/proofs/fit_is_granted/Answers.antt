@@ -10,7 +10,7 @@ use Rattle.turn_machine.specs.Steps.{Step, serves, step}
 use Rattle.turn_machine.specs.Events.{allocate, refresh, asks}
 use Rattle.turn_machine.specs.Opening.{opened, with_relay}
 use Rattle.std.specs.Prelude.{[], ◌∷◌, ◌+◌}
-use Rattle.turn_machine.proofs.GrantingLemmas.{opening_is, one_granted, two_granted, part_granted, refreshed_exactly}
+use Rattle.turn_machine.proofs.GrantingLemmas.{opening_is, one_granted, two_granted, part_granted, second_granted, refreshed_exactly}
 use Rattle.turn_machine.proofs.GrantedLemmas.{refresh_granted, permit_granted, bind_granted, with_closes}
 use Rattle.turn_machine.proofs.fit_is_granted.Goals as goal
 
@@ -41,6 +41,13 @@ returns-clause-one_of_two c = λ setup rules state now tuple user id lifetime wa
     let until = s.clock + seconds (granted_for lifetime setup.greatest_lifetime) in
     let is = part_granted setup rules s tuple user id lifetime want other offer fit differ lacks in
     (opened tuple user id until want.family s offer, opening_is tuple user id until want.family s offer (step setup rules state now (asks tuple user (allocate id lifetime (want ∷ other ∷ [])))).state (ap (λ (x : Step). x.state) is), ap (λ (x : Step). x.output) is)
+
+pub returns-clause-second_of_two : goal.returns-clause-second_of_two
+returns-clause-second_of_two c = λ setup rules state now tuple user id lifetime want other offer fit differ lacks.
+    let s = at now state in
+    let until = s.clock + seconds (granted_for lifetime setup.greatest_lifetime) in
+    let is = second_granted setup rules s tuple user id lifetime want other offer fit differ lacks in
+    (opened tuple user id until other.family s offer, opening_is tuple user id until other.family s offer (step setup rules state now (asks tuple user (allocate id lifetime (want ∷ other ∷ [])))).state (ap (λ (x : Step). x.state) is), ap (λ (x : Step). x.output) is)
 
 pub returns-clause-refreshed : goal.returns-clause-refreshed
 returns-clause-refreshed c = λ setup rules state now tuple user family lifetime own is.
