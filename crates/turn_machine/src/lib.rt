@@ -228,7 +228,7 @@ pub fn refusals_are_exact()
 /// No user ever has more relayed addresses than the quota. If the quotas of all users that ever asked fit
 /// into the room, then whatever anybody does, a user finds as many free places as its quota leaves: a fit
 /// Allocate request of a user below the quota is granted, and a 508 means that the caller had no socket for
-/// any family that the server supports. When the caller has sockets is left open.
+/// any family that the server supports. Whether the caller has sockets is left open.
 pub fn quotas_protect()
     ensures within { (setup : Setup) (events : List Timed) (user : ℕ)
         → count_by (λ a. a.user == user) (run setup events).relays ≤ setup.most_of_user }
@@ -429,7 +429,7 @@ pub fn clients_are_apart()
 {}
 
 /// Whole sessions, evaluated by the prover: the output of each event and the sockets to be closed, and the
-/// edges of all rules to the nanosecond. The expected outputs are written from the RFC.
+/// edges of all rules to the nanosecond. The expected outputs are written from the RFC and the choices above.
 pub fn sessions_go_so()
     ensures session { outputs (history small_setup session) ≡ expected }
     ensures flood { outputs (history small_setup flood) ≡ flood_expected }
@@ -451,8 +451,9 @@ pub fn sessions_go_so()
 /// the user that reserved, once; with any other token nothing is opened. Only a request that opens an
 /// allocation reserves or uses up a reservation: a refused request reserves nothing and leaves all tokens
 /// valid, and so do a request that comes again and all other events. A request that comes again gets the
-/// token of the first response. A user never has more reservations than the quota, and the token of each
-/// reservation that expires is reported. That tokens can't be guessed is the caller's.
+/// token of the first response, as long as the reservation is live. A user never has more reservations than
+/// the quota, and the token of each reservation that expires is reported. It is left to the caller that
+/// tokens can't be guessed.
 pub fn reservations_are_kept()
     ensures state { (setup : Setup) (events : List OuterTimed)
         → (outer_run setup events).state ≡ run setup (inner_run setup events) }
