@@ -15,7 +15,7 @@ use Rattle.turn_slots.proofs.RingsLemmas.{same_or_not}
 use Rattle.turn_slots.proofs.KeysLemmas.{none_isnt, some_same, is_there}
 use Rattle.turn_slots.proofs.TableLemmas.{tuple_itself, tuple_same, client_free, client_there, client_used, held_low, place_free, opened_held, ended_held, same_held, table_set}
 
--- what `get` gives
+-- what `get` returns
 pub found_at : (items xs : List (Option Entry)) (slot : ℕ) (o : Option Entry) (e : Entry) → xs ≡ items → true ≡ nat_lt slot (length xs) → o ≡ get_or xs slot o → o ≡ Some e → get_or items slot None ≡ Some e
 found_at items xs slot o e same lt is some =
     ap (λ (z : List (Option Entry)). get_or z slot None) (sym same) ∙ (get_or_default xs slot None o (ltb-true slot (length xs) (sym lt)) ∙ (sym is ∙ some))

@@ -1,4 +1,4 @@
--- What a table tells of its deadlines, of a user's allocations and of how many there are.
+-- The deadlines of a table, the allocations of a user, and the number of all.
 use Rattle.std.proofs.Common.{◌≡◌, ℕ, ◌+◌, ◌-◌, ◌<◌, ◌≤◌, ◌^◌, Bool, true, false, not, List, [], ◌∷◌, Option, None, Some, length, get_or, map, replicate, count_by, cond, suc, zero, sym, ap, subst, refl, ◌∙◌, inl, inr, arith}
 use Rattle.std.specs.Prelude.{◌==◌}
 use Rattle.std.proofs.lemmas.Bool.{cases_lt, eq-eqb, ne_eqb}

@@ -111,7 +111,7 @@ module _ (entries : List (Option Entry)) (clients : List (Option FiveTuple)) (ar
     | inr it ↦ it
   ]
 
--- what is said of a result is said of another, if it follows
+-- what follows from a fact about a result
 pub if_some : {X : Type 0} {P Q : X → Type 0} (o : Option X) → ((x : X) → P x → Q x) → IfSome o P → IfSome o Q
 if_some None f a = tt
 if_some (Some x) f a = f x a

@@ -5,11 +5,13 @@
 mod deadlines;
 mod groups;
 mod hashing;
+mod iter;
 mod keys;
 mod laws;
 mod slots;
 mod users;
 
+pub use iter::Iter;
 pub use laws::{lists_agree, numbers_are_new, user_numbers_are_their_bytes};
 pub use slots::{Entry, Slots};
 pub use users::UserId;

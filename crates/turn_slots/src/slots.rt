@@ -4,6 +4,7 @@ ghost use Rattle.std.specs.Prelude.{◌≡◌, ◌≢◌, ℕ, ◌+◌, ◌-◌,
 ghost use Rattle.stun_endpoints.specs.Endpoints.{is_tuple};
 ghost use Rattle.turn_slots.specs.Deadlines.{never};
 ghost use Rattle.turn_slots.specs.Hashes.{secret_of};
+ghost use Rattle.turn_slots.specs.Iterating.{taken_from, taken_left};
 ghost use Rattle.turn_slots.specs.Keys.{IsFullOf};
 ghost use Rattle.turn_slots.specs.Numbers.{number_at};
 ghost use Rattle.turn_slots.specs.Users.{is_user};
@@ -12,6 +13,7 @@ ghost use Rattle.turn_slots.specs.Tables.{IsPlaceOf};
 
 use crate::deadlines::{Deadlines, NEVER};
 use crate::groups::Groups;
+use crate::iter::Iter;
 use crate::keys::Keys;
 use crate::users::UserId;
 use std::alloc::{AllocError, Global};
@@ -37,13 +39,13 @@ pub struct Entry {
 
 /// The allocations of a TURN server, each in a slot of its own (RFC 8656, section 6).
 ///
-/// A slot is an index below the capacity. It is the caller's, too, for what it keeps of an allocation
-/// besides: it stays the same until the allocation ends.
+/// A slot is an index below the capacity, and stays the same until its allocation ends: a caller can
+/// keep more of an allocation in a `Vec` of its own, by slot.
 ///
-/// [`Slots::new`] takes all memory. No other call allocates, and the cost of each is independent of the
-/// number of allocations, with two exceptions: a deadline that is set, an opening and an end take up to
-/// log2 of the capacity steps, and a bucket of the hash table can get long if two clients' or users'
-/// hashes agree, which nobody can aim at without the seed.
+/// [`Slots::new`] takes all memory; no other call allocates. The cost of a call doesn't depend on how
+/// many allocations there are. A look-up by client or user hashes it, and walks over one bucket of a hash
+/// table, which without the seed nobody can fill at will. What sets a deadline, an opening and an end
+/// among it, takes up to log2 of the capacity steps for that. [`Slots::iter`] alone walks over all slots.
 ///
 /// ```
 /// use stun_endpoints::FiveTuple;
@@ -171,7 +173,30 @@ impl Slots {
         &self.entries
     }
 
+    /// Iterates over the allocations with their slots, in the order of the slots. All of it costs as much
+    /// as there are slots, however few are taken.
+    pub fn iter(&self) -> Iter<'_>
+        ensures { taken_left result ≡ taken_from 0 self.now.entries }
+    {
+        Iter {
+            entries: &self.entries,
+            slot: 0,
+        }
+    }
+
     /// Returns the slot of the client's allocation, or `None` if the client has none.
+    ///
+    /// ```
+    /// use stun_endpoints::FiveTuple;
+    /// use turn_slots::{Slots, UserId};
+    ///
+    /// let mut slots = Slots::new(alloc, 4, [1, 2])?;
+    /// let tuple = FiveTuple { transport: 17, ..FiveTuple::default() };
+    /// let slot = slots.open(tuple, UserId::default(), 600);
+    /// assert_eq!(rt; slots.find_by_client(&tuple), slot);
+    /// let over_tcp = FiveTuple { transport: 6, ..tuple };
+    /// assert_eq!(rt; slots.find_by_client(&over_tcp), None);
+    /// ```
     pub fn find_by_client(&self, client: &FiveTuple) -> Option<usize>
         ensures some { IfSome result (λ slot. (e : _) × Holds self.now slot e
             × (is_tuple client.now e.client ≡ true)) }
@@ -271,6 +296,19 @@ impl Slots {
     /// # Requires
     ///
     /// `deadline` is below `u64::MAX`.
+    ///
+    /// ```
+    /// use stun_endpoints::FiveTuple;
+    /// use turn_slots::{Slots, UserId};
+    ///
+    /// let mut slots = Slots::new(alloc, 4, [1, 2])?;
+    /// let slot = slots.open(FiveTuple::default(), UserId::default(), 600).unwrap_or(0);
+    /// assert!(rt; slots.set_deadline(slot, 900));
+    /// assert_eq!(rt; slots.next_deadline(), Some(900));
+    /// assert_eq!(rt; slots.end(slot).map(|entry| entry.deadline), Some(900));
+    /// assert!(rt; !slots.set_deadline(slot, 1000));
+    /// assert_eq!(rt; slots.next_deadline(), None);
+    /// ```
     pub fn set_deadline(&mut self, slot: usize, deadline: u64) -> bool
         requires { deadline < never }
         ensures { MatchOption (at_slot self.old slot) ((result ≡ false) × (self.new ≡ self.old))
@@ -328,6 +366,26 @@ impl Slots {
     /// to end them all.
     ///
     /// Returns `None`, and changes nothing, if the user has no allocations.
+    ///
+    /// ```
+    /// use stun_endpoints::{Endpoint, FiveTuple};
+    /// use turn_slots::{Slots, UserId};
+    ///
+    /// let mut slots = Slots::new(alloc, 4, [1, 2])?;
+    /// let user = UserId::from([1; 32]);
+    /// for port in 1..4 {
+    ///     let client = Endpoint { port, ..Endpoint::default() };
+    ///     let tuple = FiveTuple { client, ..FiveTuple::default() };
+    ///     assert!(rt; slots.open(tuple, user, 600).is_some());
+    /// }
+    /// assert_eq!(rt; (slots.len(), slots.count_by_user(user)), (3, 3));
+    /// assert_eq!(rt; slots.count_by_user(UserId::default()), 0);
+    /// for left in 0..3 {
+    ///     assert!(rt; slots.end_by_user(user).is_some());
+    ///     assert_eq!(rt; slots.count_by_user(user), 2 - left);
+    /// }
+    /// assert!(rt; slots.end_by_user(user).is_none());
+    /// ```
     pub fn end_by_user(&mut self, user: UserId) -> Option<(usize, Entry)>
         ensures some { IfSome result (λ ended. Ends (λ e. is_user user e.user ≡ true)
             ended.0 ended.1 self.old self.new) }
@@ -356,6 +414,22 @@ impl Slots {
     /// slot. Call it until it returns `None` to end all that are due.
     ///
     /// Returns `None`, and changes nothing, if every deadline is after `now`.
+    ///
+    /// ```
+    /// use stun_endpoints::FiveTuple;
+    /// use turn_slots::{Slots, UserId};
+    ///
+    /// let mut slots = Slots::new(alloc, 4, [1, 2])?;
+    /// let (udp, tcp) = (17, 6);
+    /// for (transport, deadline) in [(udp, 700), (tcp, 600)] {
+    ///     let tuple = FiveTuple { transport, ..FiveTuple::default() };
+    ///     assert!(rt; slots.open(tuple, UserId::default(), deadline).is_some());
+    /// }
+    /// assert_eq!(rt; slots.next_deadline(), Some(600));
+    /// let ended = slots.end_due(800);
+    /// assert!(rt; ended.is_some_and(|(_slot, entry)| entry.client.transport == tcp));
+    /// assert_eq!(rt; slots.next_deadline(), Some(700));
+    /// ```
     pub fn end_due(&mut self, now: u64) -> Option<(usize, Entry)>
         ensures some { IfSome result (λ ended. Ends (λ e. (e.deadline ≤ now)
             × Each self.old (λ other. e.deadline ≤ other.deadline))
