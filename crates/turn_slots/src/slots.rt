@@ -44,8 +44,8 @@ pub struct Entry {
 ///
 /// [`Slots::new`] takes all memory; no other call allocates. The cost of a call doesn't depend on how
 /// many allocations there are. A look-up by client or user hashes it, and walks over one bucket of a hash
-/// table, which without the seed nobody can fill at will. What sets a deadline, an opening and an end
-/// among it, takes up to log2 of the capacity steps for that. [`Slots::iter`] alone walks over all slots.
+/// table, which nobody can fill at will without the seed. Setting a deadline, as opening and ending do
+/// too, takes up to log2 of the capacity steps. [`Slots::iter`] alone walks over all slots.
 ///
 /// ```
 /// use stun_endpoints::FiveTuple;
@@ -173,8 +173,8 @@ impl Slots {
         &self.entries
     }
 
-    /// Iterates over the allocations with their slots, in the order of the slots. All of it costs as much
-    /// as there are slots, however few are taken.
+    /// Iterates over the allocations with their slots, in the order of the slots. A whole walk takes a
+    /// step for each slot, however few are taken.
     pub fn iter(&self) -> Iter<'_>
         ensures { taken_left result ≡ taken_from 0 self.now.entries }
     {
@@ -261,8 +261,8 @@ impl Slots {
     ///
     /// # Requires
     ///
-    /// The client has no allocation, so that [`Slots::find_by_client`] returns `None`, and `deadline` is below
-    /// `u64::MAX`.
+    /// The client has no allocation, so that [`Slots::find_by_client`] returns `None`, and `deadline` is
+    /// below `u64::MAX`.
     pub fn open(&mut self, client: FiveTuple, user: UserId, deadline: u64) -> Option<usize>
         requires client { Each self.old (λ e. is_tuple client e.client ≡ false) }
         requires deadline { deadline < never }
