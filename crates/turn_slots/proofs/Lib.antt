@@ -1,0 +1,12 @@
+pub mod DeadlinesLemmas
+pub mod RingsLemmas
+pub mod GroupsLemmas
+pub mod MovesLemmas
+pub mod StartLemmas
+pub mod KeysLemmas
+pub mod TableLemmas
+pub mod ChangesLemmas
+pub mod QueriesLemmas
+pub mod NumbersLemmas
+pub mod ListsLemmas
+pub mod UsersLemmas

@@ -1,0 +1,10 @@
+pub mod Users
+pub mod Numbers
+pub mod Slots
+pub mod Lists
+pub mod Hashes
+pub mod Deadlines
+pub mod Groups
+pub mod Keys
+pub mod Tables
+pub mod Iterating

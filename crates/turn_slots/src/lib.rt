@@ -1,0 +1,17 @@
+//! The allocations of a TURN server in memory (RFC 8656, section 6): found by client, relay number and
+//! user, ended by deadline, each call at a cost that doesn't depend on how many there are.
+#![tactic(auto)]
+
+mod deadlines;
+mod groups;
+mod hashing;
+mod iter;
+mod keys;
+mod laws;
+mod slots;
+mod users;
+
+pub use iter::Iter;
+pub use laws::{lists_agree, numbers_are_new, user_numbers_are_their_bytes};
+pub use slots::{Entry, Slots};
+pub use users::UserId;

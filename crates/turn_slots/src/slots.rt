@@ -1,0 +1,444 @@
+//! The slots of a TURN server's allocations.
+
+ghost use Rattle.std.specs.Prelude.{◌≡◌, ◌≢◌, ℕ, ◌+◌, ◌-◌, ◌<◌, ◌≤◌, ◌^◌, ◌==◌, true, false, length, None, Some, IfOk, IfSome, IfNone, MatchOption, IsTrue, count_by, replicate, slice_set};
+ghost use Rattle.stun_endpoints.specs.Endpoints.{is_tuple};
+ghost use Rattle.turn_slots.specs.Deadlines.{never};
+ghost use Rattle.turn_slots.specs.Hashes.{secret_of};
+ghost use Rattle.turn_slots.specs.Iterating.{taken_from, taken_left};
+ghost use Rattle.turn_slots.specs.Keys.{IsFullOf};
+ghost use Rattle.turn_slots.specs.Numbers.{number_at};
+ghost use Rattle.turn_slots.specs.Users.{is_user};
+ghost use Rattle.turn_slots.specs.Slots.{at_slot, Holds, Each, IsFull, is_live, is_users, Opens, without, Ends};
+ghost use Rattle.turn_slots.specs.Tables.{IsPlaceOf};
+
+use crate::deadlines::{Deadlines, NEVER};
+use crate::groups::Groups;
+use crate::iter::Iter;
+use crate::keys::Keys;
+use crate::users::UserId;
+use std::alloc::{AllocError, Global};
+use std::marker::Model;
+use stun_endpoints::FiveTuple;
+
+/// A relay number modulo this is its slot.
+const ROUNDS: u64 = 4_294_967_296;
+
+/// The allocation in a slot.
+#[derive(Clone, Copy, Debug, PartialEq, Eq)]
+pub struct Entry {
+    /// The client, which has no other allocation (RFC 8656, section 6).
+    pub client: FiveTuple,
+    /// The user who opened it.
+    pub user: UserId,
+    /// The relay number: the slot in its low 32 bits, and in its high 32 bits a counter of openings, so
+    /// that a number is used again only after 2^32 openings.
+    pub number: u64,
+    /// When it ends, by the caller's clock.
+    pub deadline: u64,
+}
+
+/// The allocations of a TURN server, each in a slot of its own (RFC 8656, section 6).
+///
+/// A slot is an index below the capacity, and stays the same until its allocation ends: a caller can
+/// keep more of an allocation in a `Vec` of its own, by slot.
+///
+/// [`Slots::new`] takes all memory; no other call allocates. The cost of a call doesn't depend on how
+/// many allocations there are. A look-up by client or user hashes it, and walks over one bucket of a hash
+/// table, which nobody can fill at will without the seed. Setting a deadline, as opening and ending do
+/// too, takes up to log2 of the capacity steps. [`Slots::iter`] alone walks over all slots.
+///
+/// ```
+/// use stun_endpoints::FiveTuple;
+/// use turn_slots::{Slots, UserId};
+///
+/// let mut slots = Slots::new(alloc, 100, [1, 2])?;
+/// let client = FiveTuple::default();
+/// let user = UserId::from([1; 32]);
+/// assert!(rt; slots.find_by_client(&client).is_none());
+///
+/// let slot = slots.open(client, user, 600).unwrap_or(0);
+/// let number = slots.entries()[slot].map_or(0, |entry| entry.number);
+/// assert_eq!(rt; slots.find_by_client(&client), Some(slot));
+/// assert_eq!(rt; slots.find_by_number(number), Some(slot));
+/// assert_eq!(rt; slots.count_by_user(user), 1);
+///
+/// assert!(rt; slots.end_due(599).is_none());
+/// assert!(rt; slots.end_due(600).is_some());
+/// assert!(rt; slots.is_empty());
+/// ```
+#[derive(Drop)]
+pub struct Slots {
+    /// How many allocations were opened, modulo 2^32.
+    round: u32,
+    entries: Vec<Option<Entry>>,
+    /// The client of each slot.
+    clients: Keys<FiveTuple>,
+    /// The users with allocations.
+    users: Keys<UserId>,
+    /// The slots of each user's place, and after them the free slots.
+    holders: Groups,
+    deadlines: Deadlines,
+}
+
+impl Model for Slots {
+    ghost use Rattle.std.specs.Prelude.{◌≡◌};
+    ghost use Rattle.turn_slots.specs.Slots.{State};
+    ghost use Rattle.turn_slots.specs.Tables.{IsTable};
+
+    ghost Value = { State };
+
+    ghost view = { λ t. record {
+      entries = t.entries.items;
+      round = t.round;
+      secret = t.clients.0;
+    } };
+
+    ghost invariant = { λ t. record {
+      table : IsTable t.round t.entries.items t.clients.1 t.users.1 t.holders t.deadlines;
+      secret : t.users.0 ≡ t.clients.0;
+    } };
+}
+
+/// Returns the place of a user, a new one if the user has none.
+fn place_of(users: &mut Keys<UserId>, user: UserId) -> usize
+    requires { IsFullOf users.old.1 → ⊥ }
+    ensures place { IsPlaceOf user users.old.1 result users.new.1 }
+    ensures secret { users.new.0 ≡ users.old.0 }
+{
+    if let Some(place) = users.find(&user) {
+        return place;
+    }
+    match users.add(user) {
+        Some(place) => place,
+        None => unreachable!(),
+    }
+}
+
+impl Slots {
+    /// Makes slots that are all free. `seed` keys the hashes of clients and users: pass random numbers.
+    ///
+    /// It takes all memory that the slots ever need, 440 bytes for each.
+    ///
+    /// # Requires
+    ///
+    /// `capacity` is below 2^31.
+    ///
+    /// # Errors
+    ///
+    /// Only if an allocation failed.
+    pub fn new(alloc: Global, capacity: u32, seed: [u64; 2]) -> Result<Self, AllocError>
+        requires { capacity < 2 ^ 31 }
+        ensures { IfOk result (λ slots. slots
+            ≡ record { entries = replicate capacity None; round = 0; secret = secret_of seed }) }
+    {
+        let places = capacity as usize;
+        let mut entries = Vec::new(alloc);
+        entries.resize(places, None)?;
+        Ok(Slots {
+            round: 0,
+            entries,
+            clients: Keys::new(alloc, places, seed)?,
+            users: Keys::new(alloc, places, seed)?,
+            holders: Groups::new(alloc, places + 1, places)?,
+            deadlines: Deadlines::new(alloc, places)?,
+        })
+    }
+
+    /// Returns the number of slots.
+    pub fn capacity(&self) -> usize
+        ensures { result ≡ length self.now.entries }
+    {
+        self.entries.len()
+    }
+
+    /// Returns the number of allocations.
+    pub fn len(&self) -> usize
+        ensures { result ≡ count_by is_live self.now.entries }
+    {
+        let places = self.entries.len();
+        places - self.holders.count(places)
+    }
+
+    /// Whether there are no allocations.
+    pub fn is_empty(&self) -> bool
+        ensures { result ≡ (count_by is_live self.now.entries == 0) }
+    {
+        self.len() == 0
+    }
+
+    /// Borrows the allocation of each slot, `None` for a free one.
+    pub fn entries(&self) -> &[Option<Entry>]
+        ensures { result.now ≡ self.now.entries }
+    {
+        &self.entries
+    }
+
+    /// Iterates over the allocations with their slots, in the order of the slots. A whole walk takes a
+    /// step for each slot, however few are taken.
+    pub fn iter(&self) -> Iter<'_>
+        ensures { taken_left result ≡ taken_from 0 self.now.entries }
+    {
+        Iter {
+            entries: &self.entries,
+            slot: 0,
+        }
+    }
+
+    /// Returns the slot of the client's allocation, or `None` if the client has none.
+    ///
+    /// ```
+    /// use stun_endpoints::FiveTuple;
+    /// use turn_slots::{Slots, UserId};
+    ///
+    /// let mut slots = Slots::new(alloc, 4, [1, 2])?;
+    /// let tuple = FiveTuple { transport: 17, ..FiveTuple::default() };
+    /// let slot = slots.open(tuple, UserId::default(), 600);
+    /// assert_eq!(rt; slots.find_by_client(&tuple), slot);
+    /// let over_tcp = FiveTuple { transport: 6, ..tuple };
+    /// assert_eq!(rt; slots.find_by_client(&over_tcp), None);
+    /// ```
+    pub fn find_by_client(&self, client: &FiveTuple) -> Option<usize>
+        ensures some { IfSome result (λ slot. (e : _) × Holds self.now slot e
+            × (is_tuple client.now e.client ≡ true)) }
+        ensures none { IfNone result (Each self.now (λ e. is_tuple client.now e.client ≡ false)) }
+        ensures only { (slot : ℕ) (e : _) → Holds self.now slot e
+            → is_tuple client.now e.client ≡ true → result ≡ Some slot }
+    {
+        self.clients.find(client)
+    }
+
+    /// Returns the slot of the allocation with a relay number, or `None` if no allocation has it.
+    pub fn find_by_number(&self, number: u64) -> Option<usize>
+        ensures some { IfSome result (λ slot. (e : _) × Holds self.now slot e × (e.number ≡ number)) }
+        ensures none { IfNone result (Each self.now (λ e. e.number ≢ number)) }
+        ensures only { (slot : ℕ) (e : _) → Holds self.now slot e → e.number ≡ number
+            → result ≡ Some slot }
+    {
+        let slot = (number % ROUNDS) as usize;
+        match self.entries.get(slot) {
+            Some(Some(entry)) if entry.number == number => Some(slot),
+            _ => None,
+        }
+    }
+
+    /// Returns the slot of one of the user's allocations, or `None` if the user has none.
+    pub fn find_by_user(&self, user: UserId) -> Option<usize>
+        ensures some { IfSome result (λ slot. (e : _) × Holds self.now slot e
+            × (is_user user e.user ≡ true)) }
+        ensures none { IfNone result (Each self.now (λ e. is_user user e.user ≡ false)) }
+    {
+        let place = self.users.find(&user)?;
+        self.holders.first(place)
+    }
+
+    /// Returns the number of the user's allocations.
+    pub fn count_by_user(&self, user: UserId) -> usize
+        ensures { result ≡ count_by (is_users user) self.now.entries }
+    {
+        match self.users.find(&user) {
+            Some(place) => self.holders.count(place),
+            None => 0,
+        }
+    }
+
+    /// Returns the least deadline of all allocations, or `None` if there are none.
+    pub fn next_deadline(&self) -> Option<u64>
+        ensures some { IfSome result (λ due. ((slot : ℕ) × (e : _) × Holds self.now slot e
+            × (e.deadline ≡ due)) × Each self.now (λ e. due ≤ e.deadline)) }
+        ensures none { IfNone result ((slot : ℕ) → slot < length self.now.entries
+            → at_slot self.now slot ≡ None) }
+    {
+        let least = self.deadlines.least();
+        if least == NEVER {
+            return None;
+        }
+        Some(least)
+    }
+
+    /// Opens an allocation, and returns its slot. Its relay number is in the slot's entry.
+    ///
+    /// Returns `None`, and changes nothing, if no slot is free.
+    ///
+    /// # Requires
+    ///
+    /// The client has no allocation, so that [`Slots::find_by_client`] returns `None`, and `deadline` is
+    /// below `u64::MAX`.
+    pub fn open(&mut self, client: FiveTuple, user: UserId, deadline: u64) -> Option<usize>
+        requires client { Each self.old (λ e. is_tuple client e.client ≡ false) }
+        requires deadline { deadline < never }
+        ensures some { IfSome result (λ slot. Opens slot (record {
+          client = client;
+          user = user;
+          number = number_at self.old.round slot;
+          deadline = deadline;
+        }) self.old self.new) }
+        ensures none { IfNone result (IsFull self.old × (self.new ≡ self.old)) }
+    {
+        let slot = self.clients.add(client)?;
+        let holder = place_of(&mut self.users, user);
+        self.holders.move_to(slot, holder);
+        self.deadlines.set(slot, deadline);
+        let number = self.round as u64 * ROUNDS + slot as u64;
+        self.round = self.round.wrapping_add(1);
+        self.entries[slot] = Some(Entry {
+            client,
+            user,
+            number,
+            deadline,
+        });
+        Some(slot)
+    }
+
+    /// Gives the allocation in a slot another deadline.
+    ///
+    /// Returns `false`, and changes nothing, if the slot is free or not below the capacity.
+    ///
+    /// # Requires
+    ///
+    /// `deadline` is below `u64::MAX`.
+    ///
+    /// ```
+    /// use stun_endpoints::FiveTuple;
+    /// use turn_slots::{Slots, UserId};
+    ///
+    /// let mut slots = Slots::new(alloc, 4, [1, 2])?;
+    /// let slot = slots.open(FiveTuple::default(), UserId::default(), 600).unwrap_or(0);
+    /// assert!(rt; slots.set_deadline(slot, 900));
+    /// assert_eq!(rt; slots.next_deadline(), Some(900));
+    /// assert_eq!(rt; slots.end(slot).map(|entry| entry.deadline), Some(900));
+    /// assert!(rt; !slots.set_deadline(slot, 1000));
+    /// assert_eq!(rt; slots.next_deadline(), None);
+    /// ```
+    pub fn set_deadline(&mut self, slot: usize, deadline: u64) -> bool
+        requires { deadline < never }
+        ensures { MatchOption (at_slot self.old slot) ((result ≡ false) × (self.new ≡ self.old))
+            (λ e. (result ≡ true) × (self.new ≡ record self.old {
+              entries
+                  = slice_set self.old.entries slot (Some (record e { deadline = deadline }));
+            })) }
+    {
+        let entry = match self.entries.get(slot) {
+            Some(Some(entry)) => *entry,
+            _ => return false,
+        };
+        self.deadlines.set(slot, deadline);
+        self.entries[slot] = Some(Entry { deadline, ..entry });
+        true
+    }
+
+    /// Ends the allocation in a slot, and returns it. The slot is free at once.
+    ///
+    /// Returns `None`, and changes nothing, if the slot is free or not below the capacity.
+    pub fn end(&mut self, slot: usize) -> Option<Entry>
+        ensures entry { result ≡ at_slot self.old slot }
+        ensures state { self.new ≡ without slot self.old }
+    {
+        let entry = match self.entries.get(slot) {
+            Some(Some(entry)) => *entry,
+            _ => return None,
+        };
+        let holder = self.holders.group_of(slot);
+        self.clients.remove(slot);
+        self.holders.move_to(slot, self.entries.len());
+        if self.holders.count(holder) == 0 {
+            self.users.remove(holder);
+        }
+        self.deadlines.set(slot, NEVER);
+        self.entries[slot] = None;
+        Some(entry)
+    }
+
+    /// Ends the allocation with a relay number, and returns it with its slot.
+    ///
+    /// Returns `None`, and changes nothing, if no allocation has the number.
+    pub fn end_by_number(&mut self, number: u64) -> Option<(usize, Entry)>
+        ensures some { IfSome result (λ ended. Ends (λ e. e.number ≡ number)
+            ended.0 ended.1 self.old self.new) }
+        ensures none { IfNone result (Each self.old (λ e. e.number ≢ number)
+            × (self.new ≡ self.old)) }
+    {
+        let slot = self.find_by_number(number)?;
+        let entry = self.end(slot)?;
+        Some((slot, entry))
+    }
+
+    /// Ends one of the user's allocations, and returns it with its slot. Call it until it returns `None`
+    /// to end them all.
+    ///
+    /// Returns `None`, and changes nothing, if the user has no allocations.
+    ///
+    /// ```
+    /// use stun_endpoints::{Endpoint, FiveTuple};
+    /// use turn_slots::{Slots, UserId};
+    ///
+    /// let mut slots = Slots::new(alloc, 4, [1, 2])?;
+    /// let user = UserId::from([1; 32]);
+    /// for port in 1..4 {
+    ///     let client = Endpoint { port, ..Endpoint::default() };
+    ///     let tuple = FiveTuple { client, ..FiveTuple::default() };
+    ///     assert!(rt; slots.open(tuple, user, 600).is_some());
+    /// }
+    /// assert_eq!(rt; (slots.len(), slots.count_by_user(user)), (3, 3));
+    /// assert_eq!(rt; slots.count_by_user(UserId::default()), 0);
+    /// for left in 0..3 {
+    ///     assert!(rt; slots.end_by_user(user).is_some());
+    ///     assert_eq!(rt; slots.count_by_user(user), 2 - left);
+    /// }
+    /// assert!(rt; slots.end_by_user(user).is_none());
+    /// ```
+    pub fn end_by_user(&mut self, user: UserId) -> Option<(usize, Entry)>
+        ensures some { IfSome result (λ ended. Ends (λ e. is_user user e.user ≡ true)
+            ended.0 ended.1 self.old self.new) }
+        ensures none { IfNone result (Each self.old (λ e. is_user user e.user ≡ false)
+            × (self.new ≡ self.old)) }
+    {
+        let slot = self.find_by_user(user)?;
+        let entry = self.end(slot)?;
+        Some((slot, entry))
+    }
+
+    /// Returns the slot with the least deadline, if that is at most `now`.
+    fn first_due(&self, now: u64) -> Option<usize>
+        ensures some { IfSome result (λ slot. (e : _) × Holds self.now slot e × (e.deadline ≤ now)
+            × Each self.now (λ other. e.deadline ≤ other.deadline)) }
+        ensures none { IfNone result (Each self.now (λ e. now < e.deadline)) }
+    {
+        let least = self.deadlines.least();
+        if least == NEVER || now < least {
+            return None;
+        }
+        Some(self.deadlines.first())
+    }
+
+    /// Ends an allocation whose deadline is the least of all and at most `now`, and returns it with its
+    /// slot. Call it until it returns `None` to end all that are due.
+    ///
+    /// Returns `None`, and changes nothing, if every deadline is after `now`.
+    ///
+    /// ```
+    /// use stun_endpoints::FiveTuple;
+    /// use turn_slots::{Slots, UserId};
+    ///
+    /// let mut slots = Slots::new(alloc, 4, [1, 2])?;
+    /// let (udp, tcp) = (17, 6);
+    /// for (transport, deadline) in [(udp, 700), (tcp, 600)] {
+    ///     let tuple = FiveTuple { transport, ..FiveTuple::default() };
+    ///     assert!(rt; slots.open(tuple, UserId::default(), deadline).is_some());
+    /// }
+    /// assert_eq!(rt; slots.next_deadline(), Some(600));
+    /// let ended = slots.end_due(800);
+    /// assert!(rt; ended.is_some_and(|(_slot, entry)| entry.client.transport == tcp));
+    /// assert_eq!(rt; slots.next_deadline(), Some(700));
+    /// ```
+    pub fn end_due(&mut self, now: u64) -> Option<(usize, Entry)>
+        ensures some { IfSome result (λ ended. Ends (λ e. (e.deadline ≤ now)
+            × Each self.old (λ other. e.deadline ≤ other.deadline))
+            ended.0 ended.1 self.old self.new) }
+        ensures none { IfNone result (Each self.old (λ e. now < e.deadline)
+            × (self.new ≡ self.old)) }
+    {
+        let slot = self.first_due(now)?;
+        let entry = self.end(slot)?;
+        Some((slot, entry))
+    }
+}
