@@ -7,3 +7,4 @@ pub mod Deadlines
 pub mod Groups
 pub mod Keys
 pub mod Tables
+pub mod Relays

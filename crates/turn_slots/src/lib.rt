@@ -7,9 +7,11 @@ mod groups;
 mod hashing;
 mod keys;
 mod laws;
+mod relay_key;
 mod slots;
 mod users;
 
-pub use laws::{lists_agree, numbers_are_new, user_numbers_are_their_bytes};
+pub use laws::{lists_agree, numbers_grow, user_numbers_are_their_bytes};
+pub use relay_key::RelayKey;
 pub use slots::{Entry, Slots};
 pub use users::UserId;
