@@ -1,0 +1,319 @@
+-- Each step leaves what is kept backed.
+use Rattle.std.proofs.Common.{◌≡◌, ℕ, ◌+◌, ◌≤◌, inl, inr, ◌⊎◌, Bool, true, false, not, cond, List, [], ◌∷◌, map, filter, Option, None, Some, refl, sym, ap, ◌∙◌, subst, eqb-true, le_of_eq}
+use Rattle.std.specs.List.{AllByRecursion, list_any}
+use Rattle.std.specs.Option.{option_map_or}
+use Rattle.std.specs.Prelude.{◌==◌, ◌&&◌, max}
+use Rattle.std.proofs.lemmas.Bool.{cond_both, cond-true, cond-false, and_parts, and_from, or_left, or_right}
+use Rattle.stun_endpoints.specs.declared.endpoints.Endpoint.{Endpoint}
+use Rattle.stun_endpoints.specs.declared.endpoints.FiveTuple.{FiveTuple}
+use Rattle.stun_endpoints.specs.Endpoints.{is_ip, is_tuple}
+use Rattle.turn_machine.specs.Lists.{SomeOf}
+use Rattle.turn_machine.specs.Relays.{seconds, Permission, Relay, Setup, Rules, State, is_live, is_of, is_users, is_owned, is_at}
+use Rattle.turn_machine.specs.Events.{Want, Request, allocate, unfit_allocate, refresh, permit, bind, unfit, Event, asks, sends, sends_on, arrives, bounces, ends, ends_user, ticks, allocated, refreshed, done, Output, answers}
+use Rattle.turn_machine.specs.Times.{at, granted_for, refreshed_for}
+use Rattle.turn_machine.specs.Opening.{opens, given_to, missing_to}
+use Rattle.turn_machine.specs.Rows.{is_other_permission, with_permission, with_permissions, peers_of, is_other_channel, fault}
+use Rattle.turn_machine.specs.Data.{allows}
+use Rattle.turn_machine.specs.Steps.{Step, changed, without, closing, is_wanted, lasting, permitting, binding, keeping, refreshes, fulfils, is_again, answers_again, serves, happens, step}
+use Rattle.turn_machine.specs.Runs.{Timed, Happening, run, happening, history}
+use Rattle.turn_machine.specs.Warrants.{is_refresh, refreshed_in, refreshed_to, is_ended, end_of, names}
+use Rattle.turn_machine.proofs.AddressesLemmas.{tuple_same, tuple_is_itself, ip_is_itself}
+use Rattle.turn_machine.specs.Granting.{given_of}
+use Rattle.turn_machine.proofs.ListsLemmas.{each_map, each_both, each_filter, each_filtered, each_mapped, all_each, left_false, right_false}
+use Rattle.turn_machine.proofs.RowsLemmas.{not_yes, permit_none, bind_none}
+use Rattle.turn_machine.proofs.CasesLemmas.{serve_cases}
+use Rattle.turn_machine.proofs.KeepingLemmas.{opens_keep, granted_least, later}
+use Rattle.turn_machine.proofs.KeptLemmas.{bound_after, each_changed}
+use Rattle.turn_machine.proofs.Backed.{IsInstalled, IsAttached, IsBacked, permissions_on, channels_on, end_on, backed_on, not_refreshed, not_refresh}
+
+abbrev AreBacked : List Happening → State → Type 0
+AreBacked hs state = AllByRecursion (IsBacked hs) state.relays
+
+-- all go on, if nothing is refreshed and ended
+all_on : (h : Happening) (hs : List Happening) → ((a : Relay) → is_ended a.user a.number h.event ≡ false) → ((a : Relay) → refreshed_to a.tuple a.user a.family h ≡ None) → (all : List Relay) → AllByRecursion (IsBacked hs) all → AllByRecursion (IsBacked (h ∷ hs)) all
+all_on h hs not_ended quiet all = each_map (IsBacked hs) (IsBacked (h ∷ hs)) (λ a b. backed_on h hs a (not_ended a) (quiet a) b) all
+
+-- ---- A request of this client and this user is one of the relayed address's
+
+record Says (h : Happening) (now : ℕ) (rules : Rules) (tuple : FiveTuple) (user : ℕ) (request : Request) (output : Output) : Type 0 where
+  moment : h.moment ≡ now
+  rules_are : h.rules ≡ rules
+  asked : h.event ≡ asks tuple user request
+  reply : h.output ≡ output
+
+same_asked : (tuple : FiveTuple) (user : ℕ) (a : Relay) (request : Request) → is_owned tuple user a ≡ true → asks tuple user request ≡ asks a.tuple a.user request
+same_asked tuple user a request his =
+    let both = and_parts (is_of tuple a) (is_users user a) his in
+    ap (λ (t : FiveTuple). asks t user request) (tuple_same tuple a.tuple both.0) ∙ ap (λ (u : ℕ). asks a.tuple u request) (sym (eqb-true a.user user both.1))
+
+same_told : (tuple : FiveTuple) (user : ℕ) (a : Relay) → is_owned tuple user a ≡ true → answers tuple done ≡ answers a.tuple done
+same_told tuple user a his = ap (λ (t : FiveTuple). answers t done) (tuple_same tuple a.tuple (and_parts (is_of tuple a) (is_users user a) his).0)
+
+-- ---- Permissions
+
+installed_one : (h : Happening) (since : List Happening) (tuple : FiveTuple) (user family now : ℕ) (request : Request) (peer : Endpoint) (ps : List Permission)
+    → h.moment ≡ now → h.event ≡ asks tuple user request → h.output ≡ answers tuple done → names peer.ip request ≡ true → h.rules.allows_ip peer.ip ≡ true → peer.ip.family ≡ family
+    → AllByRecursion (IsInstalled (h ∷ since) tuple user family) ps → AllByRecursion (IsInstalled (h ∷ since) tuple user family) (with_permission now peer.ip ps)
+installed_one h since tuple user family now request peer ps moment asked reply named allowed same each = (
+  record { by = inl (record { request = request; asked = asked; named = named; allowed = allowed; succeeded = reply; ends = ap (λ (m : ℕ). m + seconds 300) moment }); family_is = same },
+  each_filter (IsInstalled (h ∷ since) tuple user family) (is_other_permission now peer.ip) ps each,
+)
+
+installed_all : (h : Happening) (since : List Happening) (tuple : FiveTuple) (user family now : ℕ) (request : Request) (peers : List Endpoint) (ps : List Permission)
+    → h.moment ≡ now → h.event ≡ asks tuple user request → h.output ≡ answers tuple done
+    → AllByRecursion (λ peer. (names peer.ip request ≡ true) × (h.rules.allows_ip peer.ip ≡ true) × (peer.ip.family ≡ family)) peers
+    → AllByRecursion (IsInstalled (h ∷ since) tuple user family) ps → AllByRecursion (IsInstalled (h ∷ since) tuple user family) (with_permissions now peers ps)
+installed_all h since tuple user family now request [] ps moment asked reply fit each = each
+installed_all h since tuple user family now request (peer ∷ peers) ps moment asked reply fit each =
+    installed_one h since tuple user family now request peer (with_permissions now peers ps) moment asked reply fit.0.0 fit.0.1 fit.0.2
+    (installed_all h since tuple user family now request peers ps moment asked reply fit.1 each)
+
+each_any : {X : Type 0} (R : X → X → Bool) → ((x : X) → R x x ≡ true) → (xs : List X) → AllByRecursion (λ x. list_any (R x) xs ≡ true) xs
+each_any R same [] = tt
+each_any R same (x ∷ xs) = (
+  or_left (R x x) (list_any (R x) xs) (same x),
+  each_map (λ y. list_any (R y) xs ≡ true) (λ y. list_any (R y) (x ∷ xs) ≡ true) (λ y is. or_right (R y x) (list_any (R y) xs) is) xs (each_any R same xs),
+)
+
+-- the peers that a request names, of a relayed address
+named_of : (rules : Rules) (request : Request) (a : Relay) (peers : List Endpoint) → AllByRecursion (λ peer. names peer.ip request ≡ true) peers → AllByRecursion (λ peer. rules.allows_ip peer.ip ≡ true) peers
+    → AllByRecursion (λ peer. (names peer.ip request ≡ true) × (rules.allows_ip peer.ip ≡ true) × (peer.ip.family ≡ a.family)) (peers_of a peers)
+named_of rules request a peers named allowed =
+    each_filtered (λ peer. (names peer.ip request ≡ true) × (rules.allows_ip peer.ip ≡ true)) (λ peer. (names peer.ip request ≡ true) × (rules.allows_ip peer.ip ≡ true) × (peer.ip.family ≡ a.family)) (λ peer. peer.ip.family == a.family)
+    (λ peer of both. (both.0, both.1, eqb-true peer.ip.family a.family of)) peers
+    (each_both (λ peer. names peer.ip request ≡ true) (λ peer. rules.allows_ip peer.ip ≡ true) (λ peer. (names peer.ip request ≡ true) × (rules.allows_ip peer.ip ≡ true)) (λ peer one other. (one, other)) peers named allowed)
+
+permitting_backed : (h : Happening) (hs : List Happening) (now : ℕ) (rules : Rules) (tuple : FiveTuple) (user : ℕ) (peers : List Endpoint) (a : Relay) → Says h now rules tuple user (permit peers) (answers tuple done)
+    → AllByRecursion (λ peer. rules.allows_ip peer.ip ≡ true) peers → is_owned tuple user a ≡ true → IsBacked hs a → IsBacked (h ∷ hs) (permitting now peers a)
+permitting_backed h hs now rules tuple user peers a says allowed his b = record {
+  since = h ∷ b.since;
+  opening = b.opening;
+  before = b.before;
+  split = ap (λ (l : List Happening). h ∷ l) b.split;
+  opens = b.opens;
+  kept = end_on h hs a b (ap (is_ended a.user a.number) says.asked) (not_refreshed a.tuple a.user a.family h (ap refreshed_in says.reply));
+  permissions = installed_all h b.since a.tuple a.user a.family now (permit peers) (peers_of a peers) a.permissions says.moment (says.asked ∙ same_asked tuple user a (permit peers) his) (says.reply ∙ same_told tuple user a his)
+      (subst (λ (r : Rules). AllByRecursion (λ peer. (names peer.ip (permit peers) ≡ true) × (r.allows_ip peer.ip ≡ true) × (peer.ip.family ≡ a.family)) (peers_of a peers)) (sym says.rules_are)
+      (named_of rules (permit peers) a peers (each_any (λ p q. is_ip p.ip q.ip) (λ p. ip_is_itself p.ip) peers) allowed))
+      (permissions_on h b.since a.tuple a.user a.family a.permissions b.permissions);
+  channels = channels_on h b.since a.tuple a.user a.family a.channels b.channels;
+}
+
+binding_backed : (h : Happening) (hs : List Happening) (now : ℕ) (rules : Rules) (tuple : FiveTuple) (user number : ℕ) (peer : Endpoint) (a : Relay) → Says h now rules tuple user (bind number peer) (answers tuple done)
+    → rules.allows_ip peer.ip ≡ true → rules.allows_port peer ≡ true → is_owned tuple user a ≡ true → (peer.ip.family == a.family) ≡ true → IsBacked hs a → IsBacked (h ∷ hs) (bound_after now number peer a)
+binding_backed h hs now rules tuple user number peer a says allowed port his of b =
+    let asked = says.asked ∙ same_asked tuple user a (bind number peer) his in
+    let reply = says.reply ∙ same_told tuple user a his in record {
+      since = h ∷ b.since;
+      opening = b.opening;
+      before = b.before;
+      split = ap (λ (l : List Happening). h ∷ l) b.split;
+      opens = b.opens;
+      kept = end_on h hs a b (ap (is_ended a.user a.number) says.asked) (not_refreshed a.tuple a.user a.family h (ap refreshed_in says.reply));
+      permissions = installed_all h b.since a.tuple a.user a.family now (bind number peer) (peers_of a (peer ∷ [])) a.permissions says.moment asked reply
+          (subst (λ (r : Rules). AllByRecursion (λ p. (names p.ip (bind number peer) ≡ true) × (r.allows_ip p.ip ≡ true) × (p.ip.family ≡ a.family)) (peers_of a (peer ∷ []))) (sym says.rules_are)
+          (named_of rules (bind number peer) a (peer ∷ []) (ip_is_itself peer.ip, tt) (allowed, tt)))
+          (permissions_on h b.since a.tuple a.user a.family a.permissions b.permissions);
+      channels = (
+        record {
+          by = inl (record {
+            asked = asked;
+            allowed = subst (λ (r : Rules). allows r peer ≡ true) (sym says.rules_are) (and_from (rules.allows_ip peer.ip) (rules.allows_port peer) allowed port);
+            succeeded = reply;
+            ends = ap (λ (m : ℕ). m + seconds 600) says.moment;
+          });
+          family_is = eqb-true peer.ip.family a.family of;
+        },
+        each_filter (IsAttached (h ∷ b.since) a.tuple a.user a.family) (is_other_channel now number) a.channels (channels_on h b.since a.tuple a.user a.family a.channels b.channels),
+      );
+    }
+
+-- ---- Refresh
+
+lasting_backed : (h : Happening) (hs : List Happening) (now : ℕ) (rules : Rules) (tuple : FiveTuple) (user granted : ℕ) (wanted lifetime : Option ℕ) (a : Relay) → Says h now rules tuple user (refresh wanted lifetime) (answers tuple (refreshed granted))
+    → IsBacked hs a → IsBacked (h ∷ hs) (cond (is_owned tuple user a) (lasting wanted (now + seconds granted) a) a)
+lasting_backed h hs now rules tuple user granted wanted lifetime a says b =
+    let test = is_owned tuple user a && is_wanted wanted a in
+    let is : is_refresh a.tuple a.user a.family h.event ≡ test = ap (is_refresh a.tuple a.user a.family) says.asked in
+    let calm : is_ended a.user a.number h.event ≡ false = ap (is_ended a.user a.number) says.asked in
+    let after : Relay = record a { until = now + seconds granted } in
+    let same : test ≡ false → IsBacked (h ∷ hs) a = λ off. backed_on h hs a calm (not_refresh a.tuple a.user a.family h (is ∙ off)) b in
+    cond_both (is_owned tuple user a) (lasting wanted (now + seconds granted) a) a (IsBacked (h ∷ hs))
+    (λ his. cond_both (is_wanted wanted a) after a (IsBacked (h ∷ hs))
+    (λ of.
+    let rest = end_of a.tuple a.user a.family a.number (b.opening.moment + seconds b.opens.granted) b.since in
+    let refreshed_is : refreshed_to a.tuple a.user a.family h ≡ Some granted =
+    cond-true (is_refresh a.tuple a.user a.family h.event) (refreshed_in h.output) None (is ∙ and_from (is_owned tuple user a) (is_wanted wanted a) his of) ∙ ap refreshed_in says.reply in
+    let later_is : IsBacked (h ∷ hs) after = record {
+      since = h ∷ b.since;
+      opening = b.opening;
+      before = b.before;
+      split = ap (λ (l : List Happening). h ∷ l) b.split;
+      opens = b.opens;
+      kept = le_of_eq (ap (λ (m : ℕ). m + seconds granted) (sym says.moment)
+          ∙ sym (cond-false (is_ended a.user a.number h.event) 0 (option_map_or (λ l. h.moment + seconds l) (refreshed_to a.tuple a.user a.family h) rest) calm
+          ∙ ap (λ (o : Option ℕ). option_map_or (λ l. h.moment + seconds l) o rest) refreshed_is));
+      permissions = permissions_on h b.since a.tuple a.user a.family a.permissions b.permissions;
+      channels = channels_on h b.since a.tuple a.user a.family a.channels b.channels;
+    } in later_is)
+    (λ off. same (right_false (is_owned tuple user a) (is_wanted wanted a) off)))
+    (λ off. same (left_false (is_owned tuple user a) (is_wanted wanted a) off))
+
+-- what ends isn't kept; what is kept goes on
+without_backed : (h : Happening) (hs : List Happening) (test : Relay → Bool) (state : State) → ((a : Relay) → test a ≡ false → IsBacked hs a → IsBacked (h ∷ hs) a) → AreBacked hs state → AreBacked (h ∷ hs) (without test state)
+without_backed h hs test state on each =
+    each_filtered (IsBacked hs) (IsBacked (h ∷ hs)) (λ a. not (test a)) (λ a kept b. on a (not_yes (test a) kept) b) state.relays each
+
+-- ---- Allocate
+
+-- backed, or new
+record IsNew (tuple : FiveTuple) (user until : ℕ) (a : Relay) : Type 0 where
+  tuple_is : a.tuple ≡ tuple
+  user_is : a.user ≡ user
+  until_is : a.until ≡ until
+  no_permissions : a.permissions ≡ []
+  no_channels : a.channels ≡ []
+
+abbrev IsEither : Happening → List Happening → FiveTuple → (user until : ℕ) → Relay → Type 0
+IsEither h hs tuple user until a = IsBacked (h ∷ hs) a ⊎ IsNew tuple user until a
+
+-- each relayed address of the client is among those that it is given
+each_given : (tuple : FiveTuple) (all : List Relay) → AllByRecursion (λ a. is_of tuple a ≡ true → SomeOf (λ g. (g.family ≡ a.family) × (g.number ≡ a.number)) (map given_of (filter (is_of tuple) all))) all
+each_given tuple [] = tt
+each_given tuple (x ∷ all) = (
+  λ is. subst (λ (l : List Relay). SomeOf (λ g. (g.family ≡ x.family) × (g.number ≡ x.number)) (map given_of l)) (sym (cond-true (is_of tuple x) (x ∷ filter (is_of tuple) all) (filter (is_of tuple) all) is)) (inl (refl, refl)),
+  each_map (λ a. is_of tuple a ≡ true → SomeOf (λ g. (g.family ≡ a.family) × (g.number ≡ a.number)) (map given_of (filter (is_of tuple) all)))
+      (λ a. is_of tuple a ≡ true → SomeOf (λ g. (g.family ≡ a.family) × (g.number ≡ a.number)) (map given_of (filter (is_of tuple) (x ∷ all))))
+      (λ a here is. cond_both (is_of tuple x) (x ∷ filter (is_of tuple) all) (filter (is_of tuple) all) (λ (l : List Relay). SomeOf (λ g. (g.family ≡ a.family) × (g.number ≡ a.number)) (map given_of l)) (λ _. inr (here is)) (λ _. here is)) all (each_given tuple all),
+)
+
+empty : {X : Type 0} (P : X → Type 0) (xs : List X) → xs ≡ [] → AllByRecursion P xs
+empty P xs none = subst (AllByRecursion P) (sym none) tt
+
+new_backed : (h : Happening) (hs : List Happening) (setup : Setup) (now : ℕ) (rules : Rules) (tuple : FiveTuple) (user id granted : ℕ) (lifetime : Option ℕ) (wants : List Want) (after : State) (a : Relay)
+    → Says h now rules tuple user (allocate id lifetime wants) (answers tuple (allocated (given_to tuple after) granted (missing_to setup tuple wants after)))
+    → (is_of tuple a ≡ true → SomeOf (λ g. (g.family ≡ a.family) × (g.number ≡ a.number)) (given_to tuple after)) → IsNew tuple user (now + seconds granted) a → IsBacked (h ∷ hs) a
+new_backed h hs setup now rules tuple user id granted lifetime wants after a says among new = record {
+  since = [];
+  opening = h;
+  before = hs;
+  split = refl;
+  opens = record {
+    id = id;
+    lifetime = lifetime;
+    wants = wants;
+    asked = says.asked ∙ (ap (λ (t : FiveTuple). asks t user (allocate id lifetime wants)) (sym new.tuple_is) ∙ ap (λ (u : ℕ). asks a.tuple u (allocate id lifetime wants)) (sym new.user_is));
+    given = given_to tuple after;
+    granted = granted;
+    missing = missing_to setup tuple wants after;
+    answered = says.reply ∙ ap (λ (t : FiveTuple). answers t (allocated (given_to tuple after) granted (missing_to setup tuple wants after))) (sym new.tuple_is);
+    has = among (subst (λ (t : FiveTuple). is_tuple tuple t ≡ true) (sym new.tuple_is) (tuple_is_itself tuple));
+  };
+  kept = le_of_eq (new.until_is ∙ ap (λ (m : ℕ). m + seconds granted) (sym says.moment));
+  permissions = empty (IsInstalled [] a.tuple a.user a.family) a.permissions new.no_permissions;
+  channels = empty (IsAttached [] a.tuple a.user a.family) a.channels new.no_channels;
+}
+
+allocate_backed : (h : Happening) (hs : List Happening) (setup : Setup) (rules : Rules) (tuple : FiveTuple) (user id granted : ℕ) (lifetime : Option ℕ) (wants : List Want) (state : State)
+    → let after = opens setup tuple user id (state.clock + seconds granted) wants state in 600 ≤ granted
+    → Says h state.clock rules tuple user (allocate id lifetime wants) (answers tuple (allocated (given_to tuple after) granted (missing_to setup tuple wants after)))
+    → AreBacked hs state → AreBacked (h ∷ hs) after
+allocate_backed h hs setup rules tuple user id granted lifetime wants state least says each =
+    let until = state.clock + seconds granted in
+    let after = opens setup tuple user id until wants state in
+    let on : AllByRecursion (IsEither h hs tuple user until) state.relays = each_map (IsBacked hs) (IsEither h hs tuple user until)
+    (λ a b. inl (backed_on h hs a (ap (is_ended a.user a.number) says.asked) (not_refreshed a.tuple a.user a.family h (ap refreshed_in says.reply)) b)) state.relays each in
+    let either : AllByRecursion (IsEither h hs tuple user until) after.relays = opens_keep setup (λ s. AllByRecursion (IsEither h hs tuple user until) s.relays) tuple user id until
+    (λ want offer s _ _ _ q. (inr (record { tuple_is = refl; user_is = refl; until_is = refl; no_permissions = refl; no_channels = refl }), q)) wants state (later state.clock granted least) on in
+    each_both (IsEither h hs tuple user until) (λ a. is_of tuple a ≡ true → SomeOf (λ g. (g.family ≡ a.family) × (g.number ≡ a.number)) (given_to tuple after)) (IsBacked (h ∷ hs))
+    (λ a one among. elim one [
+      | inl b ↦ b
+      | inr new ↦ new_backed h hs setup state.clock rules tuple user id granted lifetime wants after a says among new
+    ]) after.relays either (each_given tuple after.relays)
+
+-- ---- The step
+
+abbrev AfterBacked : Happening → List Happening → Step → Type 0
+AfterBacked h hs s = h.output ≡ s.output → AreBacked (h ∷ hs) s.state
+
+asked_calm : (h : Happening) (tuple : FiveTuple) (user : ℕ) (request : Request) → h.event ≡ asks tuple user request → (a : Relay) → is_ended a.user a.number h.event ≡ false
+asked_calm h tuple user request asked a = ap (is_ended a.user a.number) asked
+
+refresh_backed : (h : Happening) (hs : List Happening) (rules : Rules) (tuple : FiveTuple) (user granted : ℕ) (wanted lifetime : Option ℕ) (state : State) → h.moment ≡ state.clock → h.rules ≡ rules → h.event ≡ asks tuple user (refresh wanted lifetime)
+    → AreBacked hs state → AfterBacked h hs (refreshes tuple user wanted granted state)
+refresh_backed h hs rules tuple user granted wanted lifetime state moment rules_are asked each =
+    let test = λ (a : Relay). is_owned tuple user a && is_wanted wanted a in
+    cond_both (granted == 0) (closing test (answers tuple (refreshed granted)) state) (keeping (changed tuple user (lasting wanted (state.clock + seconds granted)) state) (answers tuple (refreshed granted)))
+    (AfterBacked h hs)
+    (λ _ reply. without_backed h hs test state (λ a off b. backed_on h hs a (asked_calm h tuple user (refresh wanted lifetime) asked a) (not_refresh a.tuple a.user a.family h (ap (is_refresh a.tuple a.user a.family) asked ∙ off)) b) each)
+    (λ _ reply. each_mapped (IsBacked hs) (IsBacked (h ∷ hs)) (λ a. cond (is_owned tuple user a) (lasting wanted (state.clock + seconds granted) a) a)
+    (λ a b. lasting_backed h hs state.clock rules tuple user granted wanted lifetime a (record { moment = moment; rules_are = rules_are; asked = asked; reply = reply }) b) state.relays each)
+
+fulfil_backed : (h : Happening) (hs : List Happening) (setup : Setup) (rules : Rules) (tuple : FiveTuple) (user : ℕ) (request : Request) (state : State) → h.moment ≡ state.clock → h.rules ≡ rules → h.event ≡ asks tuple user request
+    → fault setup rules state tuple user request ≡ None → AreBacked hs state → AfterBacked h hs (fulfils setup tuple user request state)
+fulfil_backed h hs setup rules tuple user (allocate id lifetime wants) state moment rules_are asked fit each reply =
+    allocate_backed h hs setup rules tuple user id (granted_for lifetime setup.greatest_lifetime) lifetime wants state (granted_least lifetime setup.greatest_lifetime) (record { moment = moment; rules_are = rules_are; asked = asked; reply = reply }) each
+fulfil_backed h hs setup rules tuple user (unfit_allocate code) state moment rules_are asked fit each reply =
+    all_on h hs (asked_calm h tuple user (unfit_allocate code) asked) (λ a. not_refreshed a.tuple a.user a.family h (ap refreshed_in reply)) state.relays each
+fulfil_backed h hs setup rules tuple user (refresh wanted lifetime) state moment rules_are asked fit each reply =
+    refresh_backed h hs rules tuple user (refreshed_for lifetime setup.greatest_lifetime) wanted lifetime state moment rules_are asked each reply
+fulfil_backed h hs setup rules tuple user (permit peers) state moment rules_are asked fit each reply =
+    let fits = permit_none setup rules tuple user peers state fit in
+    each_changed (IsBacked hs) (IsBacked (h ∷ hs)) tuple user (permitting state.clock peers) state
+    (λ a b. backed_on h hs a (asked_calm h tuple user (permit peers) asked a) (not_refreshed a.tuple a.user a.family h (ap refreshed_in reply)) b)
+    (λ a his b. permitting_backed h hs state.clock rules tuple user peers a (record { moment = moment; rules_are = rules_are; asked = asked; reply = reply }) (all_each (λ peer. rules.allows_ip peer.ip) peers fits.allowed) his b) each
+fulfil_backed h hs setup rules tuple user (bind number peer) state moment rules_are asked fit each reply =
+    let fits = bind_none setup rules tuple user number peer state fit in
+    let on = λ (a : Relay) (b : IsBacked hs a). backed_on h hs a (asked_calm h tuple user (bind number peer) asked a) (not_refreshed a.tuple a.user a.family h (ap refreshed_in reply)) b in
+    each_changed (IsBacked hs) (IsBacked (h ∷ hs)) tuple user (binding state.clock number peer) state on
+    (λ a his b. cond_both (peer.ip.family == a.family) (bound_after state.clock number peer a) a (IsBacked (h ∷ hs))
+    (λ of. binding_backed h hs state.clock rules tuple user number peer a (record { moment = moment; rules_are = rules_are; asked = asked; reply = reply }) fits.allowed fits.port his of b) (λ _. on a b)) each
+fulfil_backed h hs setup rules tuple user (unfit code) state moment rules_are asked fit each reply =
+    all_on h hs (asked_calm h tuple user (unfit code) asked) (λ a. not_refreshed a.tuple a.user a.family h (ap refreshed_in reply)) state.relays each
+
+again_quiet : (setup : Setup) (tuple : FiveTuple) (user : ℕ) (request : Request) (state : State) → is_again tuple user request state ≡ true → refreshed_in (answers_again setup tuple request state) ≡ None
+again_quiet setup tuple user (allocate id lifetime wants) state is = refl
+again_quiet setup tuple user (unfit_allocate code) state is = refl
+again_quiet setup tuple user (refresh family lifetime) state is = refl
+again_quiet setup tuple user (permit peers) state is = refl
+again_quiet setup tuple user (bind number peer) state is = refl
+again_quiet setup tuple user (unfit code) state is = refl
+
+serve_backed : (h : Happening) (hs : List Happening) (setup : Setup) (rules : Rules) (tuple : FiveTuple) (user : ℕ) (request : Request) (state : State) → h.moment ≡ state.clock → h.rules ≡ rules → h.event ≡ asks tuple user request
+    → AreBacked hs state → AfterBacked h hs (serves setup rules tuple user request state)
+serve_backed h hs setup rules tuple user request state moment rules_are asked each =
+    serve_cases setup rules tuple user request state (AfterBacked h hs)
+    (λ code _ _ reply. all_on h hs (asked_calm h tuple user request asked) (λ a. not_refreshed a.tuple a.user a.family h (ap refreshed_in reply)) state.relays each)
+    (λ again reply. all_on h hs (asked_calm h tuple user request asked) (λ a. not_refreshed a.tuple a.user a.family h (ap refreshed_in reply ∙ again_quiet setup tuple user request state again)) state.relays each)
+    (λ _ fit. fulfil_backed h hs setup rules tuple user request state moment rules_are asked fit each)
+
+-- a datagram, or time
+data_backed : (h : Happening) (hs : List Happening) (state : State) → ((a : Relay) → is_ended a.user a.number h.event ≡ false) → ((a : Relay) → is_refresh a.tuple a.user a.family h.event ≡ false) → AreBacked hs state → AreBacked (h ∷ hs) state
+data_backed h hs state calm quiet each = all_on h hs calm (λ a. not_refresh a.tuple a.user a.family h (quiet a)) state.relays each
+
+abbrev Now : Setup → State → ℕ → Rules → Event → Happening
+Now setup state now rules event = happening setup state (record { now = now; rules = rules; event = event })
+
+happens_backed : (setup : Setup) (hs : List Happening) (state : State) (now : ℕ) (rules : Rules) (event : Event) → AreBacked hs (at now state)
+    → AreBacked (Now setup state now rules event ∷ hs) (happens setup rules (at now state) event).state
+happens_backed setup hs state now rules (asks tuple user request) each = serve_backed (Now setup state now rules (asks tuple user request)) hs setup rules tuple user request (at now state) refl refl refl each refl
+happens_backed setup hs state now rules (sends tuple peer dont_fragment bytes) each = data_backed (Now setup state now rules (sends tuple peer dont_fragment bytes)) hs (at now state) (λ _. refl) (λ _. refl) each
+happens_backed setup hs state now rules (sends_on tuple number bytes) each = data_backed (Now setup state now rules (sends_on tuple number bytes)) hs (at now state) (λ _. refl) (λ _. refl) each
+happens_backed setup hs state now rules (arrives number peer bytes) each = data_backed (Now setup state now rules (arrives number peer bytes)) hs (at now state) (λ _. refl) (λ _. refl) each
+happens_backed setup hs state now rules (bounces number peer icmp) each = data_backed (Now setup state now rules (bounces number peer icmp)) hs (at now state) (λ _. refl) (λ _. refl) each
+happens_backed setup hs state now rules (ends number) each =
+    let h = Now setup state now rules (ends number) in
+    without_backed h hs (is_at number) (at now state) (λ a off b. backed_on h hs a off (not_refresh a.tuple a.user a.family h refl) b) each
+happens_backed setup hs state now rules (ends_user user) each =
+    let h = Now setup state now rules (ends_user user) in
+    without_backed h hs (is_users user) (at now state) (λ a off b. backed_on h hs a off (not_refresh a.tuple a.user a.family h refl) b) each
+happens_backed setup hs state now rules ticks each = data_backed (Now setup state now rules ticks) hs (at now state) (λ _. refl) (λ _. refl) each
+
+step_backed : (setup : Setup) (hs : List Happening) (state : State) (now : ℕ) (rules : Rules) (event : Event) → AreBacked hs state
+    → AreBacked (happening setup state (record { now = now; rules = rules; event = event }) ∷ hs) (step setup rules state now event).state
+step_backed setup hs state now rules event each =
+    happens_backed setup hs state now rules event (each_filter (IsBacked hs) (is_live (max state.clock now)) state.relays each)
+
+pub run_backed : (setup : Setup) (events : List Timed) → AreBacked (history setup events) (run setup events)
+run_backed setup [] = tt
+run_backed setup (t ∷ events) = step_backed setup (history setup events) (run setup events) t.now t.rules t.event (run_backed setup events)

@@ -1,0 +1,202 @@
+-- Reservations: each run is a run of the machine; a token lasts 30 seconds and serves once.
+use Rattle.std.proofs.Common.{inr, ◌≡◌, ℕ, ◌+◌, ◌<◌, ◌≤◌, Bool, true, false, not, cond, List, [], ◌∷◌, filter, find, Option, None, Some, refl, sym, ap, ◌∙◌, subst, eqb-true, eq-eqb, ltb-true, zero-le, arith}
+use Rattle.std.specs.Option.{option_map_or}
+use Rattle.std.specs.Prelude.{◌==◌, ◌&&◌, max, count_by, nat_lt, is_some}
+use Rattle.std.proofs.lemmas.Bool.{cond_both, cond-true, cond-false, and_parts, and_from, lt-ltb}
+use Rattle.stun_endpoints.specs.declared.endpoints.FiveTuple.{FiveTuple}
+use Rattle.stun_endpoints.specs.Endpoints.{is_tuple}
+use Rattle.turn_machine.specs.Relays.{seconds, Setup, Rules, State, is_of, is_owned}
+use Rattle.turn_machine.specs.Events.{Offer, Want, allocate, asks, allocated, refused, Output, answers}
+use Rattle.turn_machine.specs.Times.{at, granted_for}
+use Rattle.turn_machine.specs.Opening.{opened}
+use Rattle.turn_machine.specs.Rows.{has_any}
+use Rattle.turn_machine.specs.Steps.{Step, step, keeping, is_again, answers_again, serves_new, serves}
+use Rattle.turn_machine.specs.Runs.{run, history}
+use Rattle.turn_machine.specs.Examples.{outputs}
+use Rattle.turn_machine.specs.Granting.{IsFit, Has, given_of}
+use Rattle.turn_machine.specs.Refusals.{IsAgain}
+use Rattle.turn_machine.specs.Reservations.{live_at, IsBelowQuota, held_for, made_by, IsReserved}
+use Rattle.turn_machine.specs.Reserving.{Reservation, OuterState, Outer, plain, reserves, claims, is_held, held_at, is_users_held, is_token, can_reserve, pair_want, reserved_want, no_want, inner, is_success, is_opening, reservation, held_after, is_reserved_by, token_for, outer_step, OuterTimed, outer_run, inner_run, outer_outputs}
+use Rattle.turn_machine.proofs.AddressesLemmas.{tuple_is_itself}
+use Rattle.turn_machine.proofs.ListsLemmas.{none_any, some_any, some_map, left_false, right_false, count_cons, count_filter}
+use Rattle.turn_machine.proofs.AgainLemmas.{is_again_of}
+use Rattle.turn_machine.proofs.GrantingLemmas.{one_granted, unmet}
+use Rattle.turn_machine.proofs.CasesLemmas.{serve_cases}
+
+pub state_is : (setup : Setup) (events : List OuterTimed) → (outer_run setup events).state ≡ run setup (inner_run setup events)
+state_is setup [] = refl
+state_is setup (t ∷ events) =
+    ap (λ (s : State). (step setup t.rules s t.now (inner setup (at t.now (outer_run setup events).state) (held_at t.now (outer_run setup events)) t.outer)).state) (state_is setup events)
+
+pub outputs_are : (setup : Setup) (events : List OuterTimed) → outer_outputs setup events ≡ outputs (history setup (inner_run setup events))
+outputs_are setup [] = refl
+outputs_are setup (t ∷ events) =
+    let h = outer_run setup events in
+    let event = inner setup (at t.now h.state) (held_at t.now h) t.outer in
+    ap (λ (s : State). (step setup t.rules s t.now event).output ∷ outer_outputs setup events) (state_is setup events)
+    ∙ ap (λ (l : List Output). (step setup t.rules (run setup (inner_run setup events)) t.now event).output ∷ l) (outputs_are setup events)
+
+-- ---- Bounds
+
+abbrev IsFew : Setup → List Reservation → Type 0
+IsFew setup held = (user : ℕ) → count_by (is_users_held user) held ≤ setup.most_of_user
+
+one_more : (b : Bool) (n most : ℕ) → (b ≡ true → n < most) → n ≤ most → cond b 1 0 + n ≤ most
+one_more true n most less le = let l = less refl in omega (arith, l)
+one_more false n most less le = omega (arith, le)
+
+-- what is opened had its pair
+reserved_few : (setup : Setup) (now : ℕ) (tuple : FiveTuple) (user id : ℕ) (lifetime : Option ℕ) (want : Want) (next : Option Offer) (token : ℕ) (held : List Reservation) → nat_lt (count_by (is_users_held user) held) setup.most_of_user ≡ true → IsFew setup held
+    → IsFew setup (reservation now (reserves tuple user id lifetime want next token) next held)
+reserved_few setup now tuple user id lifetime want None token held room few other = few other
+reserved_few setup now tuple user id lifetime want (Some offer) token held room few other =
+    let r : Reservation = record { token = token; user = user; tuple = tuple; id = id; family = want.family; offer = offer; until = now + seconds 30 } in
+    subst (λ (n : ℕ). n ≤ setup.most_of_user) (sym (count_cons (is_users_held other) r held))
+    (one_more (user == other) (count_by (is_users_held other) held) setup.most_of_user
+    (λ same. subst (λ (u : ℕ). count_by (is_users_held u) held < setup.most_of_user) (eqb-true user other same) (ltb-true (count_by (is_users_held user) held) setup.most_of_user room)) (few other))
+
+filtered_few : (setup : Setup) (keep : Reservation → Bool) (held : List Reservation) → IsFew setup held → IsFew setup (filter keep held)
+filtered_few setup keep held few user = let fewer = count_filter (is_users_held user) keep held in let f = few user in omega (arith, fewer, f)
+
+after_few : (setup : Setup) (state : State) (outer : Outer) (output : Output) (held : List Reservation) → IsFew setup held → IsFew setup (held_after setup state outer output held)
+after_few setup state (plain event) output held few = few
+after_few setup state (reserves tuple user id lifetime want next token) output held few =
+    cond_both (is_opening tuple state output && can_reserve setup user next held) (reservation state.clock (reserves tuple user id lifetime want next token) next held) held (IsFew setup)
+    (λ both.
+    let can = (and_parts (is_opening tuple state output) (can_reserve setup user next held) both).1 in
+    reserved_few setup state.clock tuple user id lifetime want next token held (and_parts (is_some next) (nat_lt (count_by (is_users_held user) held) setup.most_of_user) can).1 few) (λ _. few)
+after_few setup state (claims tuple user id lifetime token) output held few =
+    cond_both (is_opening tuple state output) (filter (λ r. not (is_token token r)) held) held (IsFew setup) (λ _. filtered_few setup (λ r. not (is_token token r)) held few) (λ _. few)
+
+pub held_few : (setup : Setup) (events : List OuterTimed) (user : ℕ) → count_by (is_users_held user) (outer_run setup events).held ≤ setup.most_of_user
+held_few setup [] user = zero-le
+held_few setup (t ∷ events) user =
+    let h = outer_run setup events in
+    after_few setup (at t.now h.state) t.outer (step setup t.rules h.state t.now (inner setup (at t.now h.state) (held_at t.now h) t.outer)).output (held_at t.now h) (filtered_few setup (is_held (max h.state.clock t.now)) h.held (held_few setup events)) user
+
+-- ---- What is fit is reserved, for 30 seconds
+
+abbrev OneAnswer : Setup → FiveTuple → (user id : ℕ) → (lifetime : Option ℕ) → Want → Offer → State → Output
+OneAnswer setup tuple user id lifetime want offer s =
+    let granted = granted_for lifetime setup.greatest_lifetime in
+    answers tuple (allocated (given_of (opened tuple user id (s.clock + seconds granted) want.family s offer) ∷ []) granted [])
+
+pub reserved : (setup : Setup) (rules : Rules) (h : OuterState) (now : ℕ) (tuple : FiveTuple) (user id : ℕ) (lifetime : Option ℕ) (want : Want) (offer next : Offer) (token : ℕ)
+    → let s = at now h.state in let held = live_at s.clock h.held in
+    let done = outer_step setup rules h now (reserves tuple user id lifetime want (Some next) token) in
+    IsFit setup tuple user want offer s → IsBelowQuota setup user held
+    → (r : Reservation) × IsReserved s.clock tuple user id want next token r × (done.holding.held ≡ r ∷ held) × (done.token ≡ Some token) × (done.step ≡ step setup rules h.state now (asks tuple user (allocate id lifetime (want ∷ []))))
+reserved setup rules h now tuple user id lifetime want offer next token fit room =
+    let s = at now h.state in
+    let held = held_at now h in
+    let can : can_reserve setup user (Some next) held ≡ true = lt-ltb (count_by (is_users_held user) held) setup.most_of_user room in
+    let want_is : pair_want setup user want (Some next) held ≡ want = ap (λ (o : Option Offer). record { family = want.family; ready = o }) (cond-true (can_reserve setup user (Some next) held) want.ready None can) in
+    let event = inner setup s held (reserves tuple user id lifetime want (Some next) token) in
+    let same : step setup rules h.state now event ≡ step setup rules h.state now (asks tuple user (allocate id lifetime (want ∷ []))) = ap (λ (w : Want). step setup rules h.state now (asks tuple user (allocate id lifetime (w ∷ [])))) want_is in
+    let reply : (step setup rules h.state now event).output ≡ OneAnswer setup tuple user id lifetime want offer s =
+    ap (λ (x : Step). x.output) same
+    ∙ ap (λ (x : Step). x.output) (one_granted setup rules s tuple user id lifetime want offer fit) in
+    let outer = reserves tuple user id lifetime want (Some next) token in
+    let r : Reservation = record { token = token; user = user; tuple = tuple; id = id; family = want.family; offer = next; until = s.clock + seconds 30 } in
+    let opening : is_opening tuple s (step setup rules h.state now event).output ≡ true =
+    and_from (not (has_any tuple s)) (is_success (step setup rules h.state now event).output) (ap not (none_any (is_of tuple) s.relays fit.free)) (ap is_success reply) in
+    let kept : held_after setup s outer (step setup rules h.state now event).output held ≡ r ∷ held =
+    cond-true (is_opening tuple s (step setup rules h.state now event).output && can_reserve setup user (Some next) held) (r ∷ held) held (and_from (is_opening tuple s (step setup rules h.state now event).output) (can_reserve setup user (Some next) held) opening can) in
+    let found : find (is_reserved_by tuple id) (r ∷ held) ≡ Some r = cond-true (is_reserved_by tuple id r) (Some r) (find (is_reserved_by tuple id) held) (and_from (is_tuple tuple tuple) (id == id) (tuple_is_itself tuple) (eq-eqb id id refl)) in (
+      r,
+      record { token_is = refl; whose = (refl, refl, refl); socket = (refl, refl); until_is = refl },
+      kept,
+      ap (λ (l : List Reservation). token_for outer (step setup rules h.state now event).output l) kept
+          ∙ (cond-true (is_success (step setup rules h.state now event).output) (option_map_or (λ (x : Reservation). Some x.token) (find (is_reserved_by tuple id) (r ∷ held)) None) None (ap is_success reply)
+          ∙ ap (λ (o : Option Reservation). option_map_or (λ (x : Reservation). Some x.token) o None) found),
+      same,
+    )
+
+-- ---- A token serves its user, once
+
+pub claimed : (setup : Setup) (rules : Rules) (h : OuterState) (now : ℕ) (tuple : FiveTuple) (user id : ℕ) (lifetime : Option ℕ) (token : ℕ) (r : Reservation)
+    → let s = at now h.state in let held = live_at s.clock h.held in
+    let done = outer_step setup rules h now (claims tuple user id lifetime token) in
+    held_for user token held ≡ Some r → IsFit setup tuple user (reserved_want r) r.offer s
+    → (done.step ≡ step setup rules h.state now (asks tuple user (allocate id lifetime (reserved_want r ∷ [])))) × (done.holding.held ≡ filter (λ x. not (x.token == token)) held)
+claimed setup rules h now tuple user id lifetime token r found fit =
+    let s = at now h.state in
+    let held = held_at now h in
+    let event = inner setup s held (claims tuple user id lifetime token) in
+    let same : step setup rules h.state now event ≡ step setup rules h.state now (asks tuple user (allocate id lifetime (reserved_want r ∷ []))) =
+    ap (λ (o : Option Reservation). step setup rules h.state now (asks tuple user (allocate id lifetime (option_map_or reserved_want o (no_want setup tuple s) ∷ [])))) found in
+    let reply : (step setup rules h.state now event).output ≡ OneAnswer setup tuple user id lifetime (reserved_want r) r.offer s =
+    ap (λ (x : Step). x.output) same
+    ∙ ap (λ (x : Step). x.output) (one_granted setup rules s tuple user id lifetime (reserved_want r) r.offer fit) in
+    let opening : is_opening tuple s (step setup rules h.state now event).output ≡ true =
+    and_from (not (has_any tuple s)) (is_success (step setup rules h.state now event).output) (ap not (none_any (is_of tuple) s.relays fit.free)) (ap is_success reply) in (
+      same,
+      cond-true (is_opening tuple s (step setup rules h.state now event).output) (filter (λ x. not (is_token token x)) held) held opening,
+    )
+
+pub not_claimed : (setup : Setup) (rules : Rules) (h : OuterState) (now : ℕ) (tuple : FiveTuple) (user id : ℕ) (lifetime : Option ℕ) (token : ℕ) → let s = at now h.state in held_for user token (live_at s.clock h.held) ≡ None
+    → (outer_step setup rules h now (claims tuple user id lifetime token)).holding.state.relays ≡ s.relays
+not_claimed setup rules h now tuple user id lifetime token none =
+    let s = at now h.state in
+    let w = no_want setup tuple s in
+    ap (λ (o : Option Reservation). (step setup rules h.state now (asks tuple user (allocate id lifetime (option_map_or reserved_want o w ∷ [])))).state.relays) none
+    ∙ serve_cases setup rules tuple user (allocate id lifetime (w ∷ [])) s (λ x. x.state.relays ≡ s.relays) (λ _ _ _. refl) (λ _. refl)
+    (λ _ _. ap (λ (x : State). x.relays) (unmet setup tuple user id (s.clock + seconds (granted_for lifetime setup.greatest_lifetime)) w s (inr refl)))
+
+-- ---- What opens no allocation changes no reservation
+
+no_opening : (tuple : FiveTuple) (s : State) (output : Output) → is_success output ≡ false → is_opening tuple s output ≡ false
+no_opening tuple s output isnt = right_false (not (has_any tuple s)) (is_success output) isnt
+
+none_held : (setup : Setup) (s : State) (outer : Outer) (output : Output) (held : List Reservation) → is_success output ≡ false → held_after setup s outer output held ≡ held
+none_held setup s (plain event) output held isnt = refl
+none_held setup s (reserves tuple user id lifetime want next token) output held isnt =
+    cond-false (is_opening tuple s output && can_reserve setup user next held) (reservation s.clock (reserves tuple user id lifetime want next token) next held) held
+    (left_false (is_opening tuple s output) (can_reserve setup user next held) (no_opening tuple s output isnt))
+none_held setup s (claims tuple user id lifetime token) output held isnt = cond-false (is_opening tuple s output) (filter (λ r. not (is_token token r)) held) held (no_opening tuple s output isnt)
+
+no_token : (outer : Outer) (output : Output) (held : List Reservation) → is_success output ≡ false → token_for outer output held ≡ None
+no_token (plain event) output held isnt = refl
+no_token (reserves tuple user id lifetime want next token) output held isnt = cond-false (is_success output) (option_map_or (λ r. Some r.token) (find (is_reserved_by tuple id) held) None) None isnt
+no_token (claims tuple user id lifetime token) output held isnt = refl
+
+pub refused_reserve_nothing : (setup : Setup) (rules : Rules) (h : OuterState) (now : ℕ) (outer : Outer) (tuple : FiveTuple) (code : ℕ) → let done = outer_step setup rules h now outer in
+    done.step.output ≡ answers tuple (refused code) → (done.holding.held ≡ live_at (at now h.state).clock h.held) × (done.token ≡ None)
+refused_reserve_nothing setup rules h now outer tuple code is =
+    let done = outer_step setup rules h now outer in
+    let isnt : is_success done.step.output ≡ false = ap is_success is in
+    (none_held setup (at now h.state) outer done.step.output (held_at now h) isnt, no_token outer done.step.output done.holding.held isnt)
+
+open_already : (tuple : FiveTuple) (s : State) (output : Output) → Has tuple s → is_opening tuple s output ≡ false
+open_already tuple s output has = left_false (not (has_any tuple s)) (is_success output) (ap not (some_any (is_of tuple) s.relays has))
+
+pub claimed_again : (setup : Setup) (rules : Rules) (h : OuterState) (now : ℕ) (tuple : FiveTuple) (user id : ℕ) (lifetime : Option ℕ) (token : ℕ) → let s = at now h.state in Has tuple s
+    → (outer_step setup rules h now (claims tuple user id lifetime token)).holding.held ≡ live_at s.clock h.held
+claimed_again setup rules h now tuple user id lifetime token has =
+    let s = at now h.state in
+    let output = (outer_step setup rules h now (claims tuple user id lifetime token)).step.output in
+    cond-false (is_opening tuple s output) (filter (λ r. not (is_token token r)) (held_at now h)) (held_at now h) (open_already tuple s output has)
+
+again_success : (setup : Setup) (rules : Rules) (tuple : FiveTuple) (user id : ℕ) (lifetime : Option ℕ) (wants : List Want) (s : State) → IsAgain tuple user id s → is_success (serves setup rules tuple user (allocate id lifetime wants) s).output ≡ true
+again_success setup rules tuple user id lifetime wants s again =
+    let r = allocate id lifetime wants in
+    ap (λ (x : Step). is_success x.output) (cond-true (is_again tuple user r s) (keeping s (answers_again setup tuple r s)) (serves_new setup rules tuple user r s) (is_again_of tuple user id s again))
+
+pub repeated : (setup : Setup) (rules : Rules) (h : OuterState) (now : ℕ) (tuple : FiveTuple) (user id : ℕ) (lifetime : Option ℕ) (want : Want) (next : Option Offer) (token : ℕ)
+    → let s = at now h.state in let held = live_at s.clock h.held in
+    let done = outer_step setup rules h now (reserves tuple user id lifetime want next token) in
+    IsAgain tuple user id s → (done.holding.held ≡ held) × ((r : Reservation) → made_by tuple id held ≡ Some r → done.token ≡ Some r.token)
+repeated setup rules h now tuple user id lifetime want next token again =
+    let s = at now h.state in
+    let held = held_at now h in
+    let outer = reserves tuple user id lifetime want next token in
+    let done = outer_step setup rules h now outer in
+    let output = done.step.output in
+    let has = some_map (λ a. (is_owned tuple user a ≡ true) × (a.opened_by ≡ id)) (λ a. is_of tuple a ≡ true) (λ a both. (and_parts (is_of tuple a) (a.user == user) both.0).0) s.relays again in
+    let kept : held_after setup s outer output held ≡ held =
+    cond-false (is_opening tuple s output && can_reserve setup user next held) (reservation s.clock outer next held) held (left_false (is_opening tuple s output) (can_reserve setup user next held) (open_already tuple s output has)) in (
+      kept,
+      λ r found. ap (λ (l : List Reservation). token_for outer output l) kept
+          ∙ (cond-true (is_success output) (option_map_or (λ (x : Reservation). Some x.token) (find (is_reserved_by tuple id) held) None) None (again_success setup rules tuple user id lifetime (pair_want setup user want next held ∷ []) s again)
+          ∙ ap (λ (o : Option Reservation). option_map_or (λ (x : Reservation). Some x.token) o None) found),
+    )
