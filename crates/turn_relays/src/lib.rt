@@ -1,0 +1,8 @@
+//! The relayed addresses of a TURN server in memory: what is kept of each, found by client, number and
+//! user, at a cost that doesn't depend on how many there are.
+#![tactic(auto)]
+
+mod kept;
+mod relays;
+
+pub use relays::Relays;
