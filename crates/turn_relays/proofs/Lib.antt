@@ -1,1 +1,2 @@
 pub mod NewestLemmas
+mod SlotsLemmas

@@ -1,8 +1,8 @@
 -- What is in slots, the newest first: the list changes as its slots do.
 use Rattle.std.proofs.Common.{◌≡◌, ℕ, ◌+◌, ◌<◌, ◌≤◌, zero, suc, Bool, true, false, cond, List, [], ◌∷◌, map, filter, find, length, Option, None, Some, get_or, set, refl, sym, ap, ◌∙◌, subst, ltb-true, ltb-false, arith}
-use Rattle.std.specs.List.{AllByRecursion, list_any}
+use Rattle.std.specs.List.{AllByRecursion}
 use Rattle.std.specs.Option.{option_map}
-use Rattle.std.specs.Prelude.{◌||◌, nat_lt, count_by}
+use Rattle.std.specs.Prelude.{nat_lt, is_some, count_by}
 use Rattle.std.proofs.lemmas.Bool.{cond_both, cond-true, cond-false, lt-ltb, le-ltb}
 use Rattle.std.proofs.lemmas.List.Sums.{sum_by-cons}
 use Rattle.turn_relays.specs.Newest.{put, newest_first}
@@ -234,3 +234,24 @@ set_one f (Some x ∷ slots) zero r none at same =
 set_one f (Some x ∷ slots) (suc i) r none at same =
     let back : Some x ≡ f (Some x) = sym (same 0 x (λ e. absurd (omega (arith, e))) refl) in
     λ k. back k ∷ set_one f slots i r none at (λ j a other at_j. same (suc j) a (λ e. other (omega (arith, e))) at_j) k
+
+length_cond : {X : Type 0} (b : Bool) (xs ys : List X) (n : ℕ) → length xs ≡ n → length ys ≡ n → length (cond b xs ys) ≡ n
+length_cond true xs ys n one other = one
+length_cond false xs ys n one other = other
+
+length_put : {X : Type 0} (number : X → ℕ) (x : X) (ys : List X) → length (put number x ys) ≡ suc (length ys)
+length_put number x [] = refl
+length_put number x (y ∷ ys) =
+    length_cond (nat_lt (number x) (number y)) (y ∷ put number x ys) (x ∷ y ∷ ys) (suc (suc (length ys))) (ap suc (length_put number x ys)) refl
+
+pub newest_length : {X : Type 0} (number : X → ℕ) (slots : List (Option X)) → length (newest_first number slots) ≡ count_by is_some slots
+newest_length number [] = refl
+newest_length number (None ∷ slots) =
+    let more = newest_length number slots in
+    let here = sum_by-cons (λ o. cond (is_some o) 1 0) None slots in
+    omega (arith, more, here)
+newest_length number (Some x ∷ slots) =
+    let more = newest_length number slots in
+    let here = sum_by-cons (λ o. cond (is_some o) 1 0) (Some x) slots in
+    let there = length_put number x (newest_first number slots) in
+    omega (arith, more, here, there)

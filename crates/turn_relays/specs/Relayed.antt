@@ -1,11 +1,14 @@
 -- What is in the slots: relayed addresses, as the machine has them.
-use Rattle.std.specs.Prelude.{◌≡◌, ℕ, ◌+◌, ◌*◌, ◌<◌, ◌≤◌, List, [], ◌∷◌, Bool, Option, None, Some, is_some, length, slice_index_or, slice_set}
-use Rattle.stun_endpoints.specs.Endpoints.{Endpoint, FiveTuple}
-use Rattle.turn_slots.specs.Slots.{Entry}
+use Rattle.std.specs.Prelude.{◌≡◌, ◌⊎◌, ℕ, ◌+◌, ◌*◌, ◌<◌, ◌≤◌, List, [], ◌∷◌, Bool, Option, None, Some, is_some, length, slice_index_or, slice_set}
+use Rattle.stun_endpoints.specs.declared.endpoints.Endpoint.{Endpoint}
+use Rattle.turn_slots.specs.declared.relay_key.RelayKey.{RelayKey}
+use Rattle.turn_slots.specs.declared.slots.Entry.{Entry}
 use Rattle.turn_slots.specs.Users.{user_number}
-use Rattle.turn_slots.specs.Numbers.{places}
+use Rattle.turn_slots.specs.Numbers.{rounds}
 use Rattle.turn_slots.specs.declared.hashing.Secret.{Secret}
-use Rattle.turn_machine.specs.Relays.{Permission, Channel, Relay, State}
+use Rattle.turn_machine.specs.declared.grants.Permission.{Permission}
+use Rattle.turn_machine.specs.declared.grants.Channel.{Channel}
+use Rattle.turn_machine.specs.Relays.{Relay, State}
 use Rattle.turn_relays.specs.Newest.{newest_first}
 
 -- what is kept of a relayed address beside its slot
@@ -78,6 +81,23 @@ Each t P = (slot : ℕ) (r : Relay) → Holds t slot r → P r
 -- a slot is set, and nothing else changes
 abbrev pub with_slot : (slot : ℕ) → Option Relay → Table → Table
 with_slot slot r t = record t { slots = slice_set t.slots slot r }
+
+-- no slot is free, or there have been as many openings as there can be
+abbrev pub IsClosed : Table → Type 0
+IsClosed t = ((slot : ℕ) → slot < length t.slots → (r : Relay) × Holds t slot r) ⊎ (t.openings ≡ rounds)
+
+abbrev pub opened : RelayKey → (user opened_by : ℕ) → Endpoint → (until number : ℕ) → Relay
+opened key user opened_by address until number = record {
+  tuple = key.tuple;
+  user = user;
+  opened_by = opened_by;
+  family = key.family;
+  number = number;
+  address = address;
+  until = until;
+  permissions = [];
+  channels = [];
+}
 
 -- a free slot gets the relayed address, whose number is above all before
 pub record Opens (slot : ℕ) (r : Relay) (old new : Table) : Type 0 where

@@ -43,6 +43,7 @@ is_users user (Some e) = is_user user e.user
 pub record Opens (slot : ℕ) (e : Entry) (old new : State) : Type 0 where
   pub within : slot < length old.entries
   pub free : at_slot old slot ≡ None
+  pub early : old.round < rounds
   pub state : new ≡ record old {
     entries = slice_set old.entries slot (Some e);
     round = old.round + 1;
