@@ -1,2 +1,3 @@
 pub mod NewestLemmas
 mod SlotsLemmas
+mod DistinctLemmas

@@ -2,7 +2,9 @@
 //! user, at a cost that doesn't depend on how many there are.
 #![tactic(auto)]
 
+mod binding;
 mod kept;
+mod permitting;
 mod relays;
 
 pub use relays::Relays;
