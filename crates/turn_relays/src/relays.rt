@@ -23,6 +23,7 @@ pub struct Relays<const P: usize, const C: usize> {
 }
 
 impl<const P: usize, const C: usize> Model for Relays<P, C> {
+    ghost use Rattle.std.specs.Prelude.{◌<◌, ◌≤◌, ◌^◌};
     ghost use Rattle.turn_relays.specs.Relayed.{Table, relays_in};
     ghost use Rattle.turn_relays.specs.Tables.{IsTable};
 
@@ -36,7 +37,12 @@ impl<const P: usize, const C: usize> Model for Relays<P, C> {
       slots = relays_in t.slots.entries t.kept.items;
     } };
 
-    ghost invariant = { λ t. IsTable t.next t.slots t.kept.items };
+    ghost invariant = { λ t. record {
+      table : IsTable t.next t.slots t.kept.items;
+      early : t.clock < 2 ^ 64;
+      permissions : P ≤ 65_535;
+      channels : C ≤ 65_535;
+    } };
 }
 
 /// Each half of a user's number has 128 bits. The function does nothing: its contract is the law.
@@ -103,10 +109,10 @@ impl<const P: usize, const C: usize> Relays<P, C> {
     }
 
     /// Advances the clock. A clock that steps back counts as stopped.
-    pub fn advance(&mut self, now: u128)
+    pub fn advance(&mut self, now: u64)
         ensures { self.new ≡ record self.old { clock = max self.old.clock now } }
     {
-        self.clock = self.clock.max(now);
+        self.clock = self.clock.max(now as u128);
     }
 
     /// How many relayed addresses there are.

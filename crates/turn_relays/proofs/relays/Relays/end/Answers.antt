@@ -20,11 +20,11 @@ returns-in_err-entry g c =
     }) same))
 
 pub invariant_of-self-2 : goal.invariant_of-self-2
-invariant_of-self-2 g c = ended_table c.self.inside.next c.self.inside.slots c.self.inside.kept.items c.self.invariant c.args.slot c.end.new.self c.end.ensures.state
+invariant_of-self-2 g c = record { table = ended_table c.self.inside.next c.self.inside.slots c.self.inside.kept.items c.self.invariant.table c.args.slot c.end.new.self c.end.ensures.state; early = c.self.invariant.early; permissions = c.self.invariant.permissions; channels = c.self.invariant.channels }
 
 pub returns : goal.returns
 returns g c =
-    let there = relay_there c.self.inside.slots.entries c.self.inside.kept.items c.self.invariant.beside c.args.slot c.in_ok-entry.entry (sym c.in_ok-entry.ensures.entry) in
+    let there = relay_there c.self.inside.slots.entries c.self.inside.kept.items c.self.invariant.table.beside c.args.slot c.in_ok-entry.entry (sym c.in_ok-entry.ensures.entry) in
     rw (← c.self.view_is) (rw there.2
     (refl, ap (λ (s : State). record {
       clock = c.self.inside.clock;
@@ -38,4 +38,4 @@ returns g c =
       openings = c.self.inside.slots.round;
       secret = c.self.inside.slots.secret;
       slots = rs;
-    }) (relays_set c.self.inside.slots.entries c.self.inside.kept.items c.args.slot None None c.self.invariant.size)))
+    }) (relays_set c.self.inside.slots.entries c.self.inside.kept.items c.args.slot None None c.self.invariant.table.size)))

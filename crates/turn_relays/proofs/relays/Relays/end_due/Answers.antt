@@ -20,12 +20,12 @@ returns-in_err-slot-clause-none g c =
     }) it.1)
 
 pub invariant_of-self-2 : goal.invariant_of-self-2
-invariant_of-self-2 g c = ended_table c.self.inside.next c.self.inside.slots c.self.inside.kept.items c.self.invariant c.in_ok-slot.slot c.end_due.new.self c.in_ok-slot.ensures.some.2
+invariant_of-self-2 g c = record { table = ended_table c.self.inside.next c.self.inside.slots c.self.inside.kept.items c.self.invariant.table c.in_ok-slot.slot c.end_due.new.self c.in_ok-slot.ensures.some.2; early = c.self.invariant.early; permissions = c.self.invariant.permissions; channels = c.self.invariant.channels }
 
 pub returns-clause-some : goal.returns-clause-some
 returns-clause-some g c =
     let it = c.in_ok-slot.ensures.some in
-    let there = relay_there c.self.inside.slots.entries c.self.inside.kept.items c.self.invariant.beside c.in_ok-slot.slot c.in_ok-slot.entry it.0 in
+    let there = relay_there c.self.inside.slots.entries c.self.inside.kept.items c.self.invariant.table.beside c.in_ok-slot.slot c.in_ok-slot.entry it.0 in
     rw (← c.self.view_is) (c.in_ok-slot.slot, relay_of c.in_ok-slot.entry there.0, there.2, refl, it.1.0,
     ap (λ (s : State). record {
       clock = c.self.inside.clock;
@@ -39,4 +39,4 @@ returns-clause-some g c =
       openings = c.self.inside.slots.round;
       secret = c.self.inside.slots.secret;
       slots = rs;
-    }) (relays_set c.self.inside.slots.entries c.self.inside.kept.items c.in_ok-slot.slot None None c.self.invariant.size))
+    }) (relays_set c.self.inside.slots.entries c.self.inside.kept.items c.in_ok-slot.slot None None c.self.invariant.table.size))

@@ -1,4 +1,4 @@
-use Rattle.std.proofs.Common.{◌≡◌, List, Option, None, replicate, sym, ap, ◌∙◌}
+use Rattle.std.proofs.Common.{◌≡◌, arith, List, Option, None, replicate, sym, ap, ◌∙◌}
 use Rattle.turn_slots.specs.Slots.{State}
 use Rattle.turn_slots.specs.Hashes.{secret_of}
 use Rattle.turn_machine.specs.Relays.{Relay}
@@ -8,7 +8,7 @@ use Rattle.turn_relays.proofs.relays.Relays.new.Goals as goal
 
 pub invariant_of-result : goal.invariant_of-result
 invariant_of-result g c =
-    new_table c.args.capacity c.requires.capacity c.in_ok-slots.slots c.in_ok-kept.kept.items (ap (λ (s : State). s.entries) c.in_ok-slots.ensures) (ap (λ (s : State). s.round) c.in_ok-slots.ensures) c.in_ok-kept.ensures
+    record { table = new_table c.args.capacity c.requires.capacity c.in_ok-slots.slots c.in_ok-kept.kept.items (ap (λ (s : State). s.entries) c.in_ok-slots.ensures) (ap (λ (s : State). s.round) c.in_ok-slots.ensures) c.in_ok-kept.ensures; early = omega arith; permissions = c.requires.permissions; channels = c.requires.channels }
 
 pub returns : goal.returns
 returns g c =

@@ -13,7 +13,7 @@ use Rattle.turn_relays.proofs.relays.Relays.open.Goals as goal
 
 pub open-requires-clause-key : goal.open-requires-clause-key
 open-requires-clause-key g c = λ slot e at.
-    let there = relay_there c.self.inside.slots.entries c.self.inside.kept.items c.self.invariant.beside slot e at in
+    let there = relay_there c.self.inside.slots.entries c.self.inside.kept.items c.self.invariant.table.beside slot e at in
     sym (for_key c.args.key e there.0)
     ∙ c.requires.key slot (relay_of e there.0) (subst (λ (z : Table). get_or z.slots slot None ≡ Some (relay_of e there.0)) c.self.view_is there.2)
 
@@ -21,7 +21,7 @@ pub returns-in_err-slot-clause-none : goal.returns-in_err-slot-clause-none
 returns-in_err-slot-clause-none g c =
     let it = c.in_err-slot.ensures.none in
     rw (c.from_residual.ensures, ← c.self.view_is) (elim it.0 [
-      | inl full ↦ inl (all_taken c.self.inside.slots.entries c.self.inside.kept.items c.self.invariant.beside full)
+      | inl full ↦ inl (all_taken c.self.inside.slots.entries c.self.inside.kept.items c.self.invariant.table.beside full)
       | inr last ↦ inr last
     ], ap (λ (s : State). record {
       clock = c.self.inside.clock;
@@ -42,7 +42,7 @@ invariant_of-self-2 g c =
     let it = c.in_ok-slot.ensures.some in
     let e : Entry = record { key = c.args.key; user = c.args.user; number = c.self.inside.slots.round * places + c.in_ok-slot.slot; deadline = c.args.until } in
     let number = number_is c.number_in-number.result c.self.inside.slots.round c.in_ok-slot.slot e c.entries.result.now c.self.inside.slots.entries refl (c.entries.ensures ∙ ap (λ (s : State). s.entries) it.state) (get_or-set_same c.self.inside.slots.entries c.in_ok-slot.slot (Some e) None it.within) c.number_in-number.ensures in
-    rw number (opened_table c.self.inside.next c.self.inside.slots c.self.inside.kept.items c.self.invariant c.in_ok-slot.slot e c.new.result it.within refl c.are_halves.ensures c.open.new.self it.state)
+    record { table = rw number (opened_table c.self.inside.next c.self.inside.slots c.self.inside.kept.items c.self.invariant.table c.in_ok-slot.slot e c.new.result it.within refl c.are_halves.ensures c.open.new.self it.state); early = c.self.invariant.early; permissions = c.self.invariant.permissions; channels = c.self.invariant.channels }
 
 pub returns-clause-some : goal.returns-clause-some
 returns-clause-some g c =
@@ -54,7 +54,7 @@ returns-clause-some g c =
     rw (← c.self.view_is) (c.in_ok-slot.slot, record {
       within = let size = relays_size c.self.inside.slots.entries c.self.inside.kept.items in let low = it.within in omega (arith, size, low);
       free = relay_missing c.self.inside.slots.entries c.self.inside.kept.items c.in_ok-slot.slot it.free;
-      number = let fresh = c.self.invariant.fresh in omega (arith, fresh, number);
+      number = let fresh = c.self.invariant.table.fresh in omega (arith, fresh, number);
       state = ap (λ (s : State). record {
             clock = c.self.inside.clock;
             next = c.number_in-number.result + 1;
@@ -68,7 +68,7 @@ returns-clause-some g c =
             openings = c.self.inside.slots.round + 1;
             secret = c.self.inside.slots.secret;
             slots = rs;
-          }) (relays_set c.self.inside.slots.entries c.self.inside.kept.items c.in_ok-slot.slot (Some e) (Some c.new.result) c.self.invariant.size)
+          }) (relays_set c.self.inside.slots.entries c.self.inside.kept.items c.in_ok-slot.slot (Some e) (Some c.new.result) c.self.invariant.table.size)
           ∙ ap (λ (r : Relay). record {
             clock = c.self.inside.clock;
             next = c.number_in-number.result + 1;

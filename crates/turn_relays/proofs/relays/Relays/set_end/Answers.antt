@@ -16,14 +16,14 @@ Sets result slot until old new o =
 
 pub invariant_of-self : goal.invariant_of-self
 invariant_of-self g c =
-    elim (none_or_some (get_or c.self.inside.slots.entries c.args.slot None)) [
+    record { table = (elim (none_or_some (get_or c.self.inside.slots.entries c.args.slot None)) [
       | inl free ↦
           let same = (subst (Sets c.set_deadline.result c.args.slot c.args.until c.self.inside.slots c.set_deadline.new.self) free c.set_deadline.ensures).1 in
-          subst (λ (z : State). IsTable c.self.inside.next z c.self.inside.kept.items) (sym same) c.self.invariant
+          subst (λ (z : State). IsTable c.self.inside.next z c.self.inside.kept.items) (sym same) c.self.invariant.table
       | inr it ↦
           let new = (subst (Sets c.set_deadline.result c.args.slot c.args.until c.self.inside.slots c.set_deadline.new.self) it.1 c.set_deadline.ensures).1 in
-          changed_table c.self.inside.next c.self.inside.slots c.self.inside.kept.items c.self.invariant c.args.slot it.0 (record it.0 { deadline = c.args.until }) it.1 refl refl c.set_deadline.new.self new
-    ]
+          changed_table c.self.inside.next c.self.inside.slots c.self.inside.kept.items c.self.invariant.table c.args.slot it.0 (record it.0 { deadline = c.args.until }) it.1 refl refl c.set_deadline.new.self new
+    ]); early = c.self.invariant.early; permissions = c.self.invariant.permissions; channels = c.self.invariant.channels }
 
 pub returns : goal.returns
 returns g c =
@@ -40,7 +40,7 @@ returns g c =
           }) same))
       | inr it ↦
           let new = (subst (Sets c.set_deadline.result c.args.slot c.args.until c.self.inside.slots c.set_deadline.new.self) it.1 c.set_deadline.ensures).1 in
-          let there = relay_there c.self.inside.slots.entries c.self.inside.kept.items c.self.invariant.beside c.args.slot it.0 it.1 in
+          let there = relay_there c.self.inside.slots.entries c.self.inside.kept.items c.self.invariant.table.beside c.args.slot it.0 it.1 in
           rw (← c.self.view_is) (rw there.2
           (ap (λ (s : State). record {
             clock = c.self.inside.clock;
