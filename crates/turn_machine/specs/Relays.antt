@@ -7,18 +7,11 @@ use Rattle.stun_endpoints.specs.declared.endpoints.Ip.{Ip}
 use Rattle.stun_endpoints.specs.declared.endpoints.Endpoint.{Endpoint}
 use Rattle.stun_endpoints.specs.declared.endpoints.FiveTuple.{FiveTuple}
 use Rattle.stun_endpoints.specs.Endpoints.{is_ip, is_endpoint, is_tuple}
+pub use Rattle.turn_machine.specs.declared.grants.Permission.{Permission}
+pub use Rattle.turn_machine.specs.declared.grants.Channel.{Channel}
 
 abbrev pub seconds : ℕ → ℕ
 seconds n = n * 1_000_000_000
-
-pub record Permission : Type 0 where
-  pub ip : Ip
-  pub until : ℕ
-
-pub record Channel : Type 0 where
-  pub number : ℕ
-  pub peer : Endpoint
-  pub until : ℕ
 
 -- A relayed address: the client and the user that asked for it, and the transaction ID of the
 -- request; its family; the number and the address of its socket; and the moment at which it ends

@@ -48,6 +48,10 @@
 //! with the law that refuses it.
 #![tactic(auto)]
 
+mod grants;
+
+pub use grants::{Channel, Permission};
+
 ghost use Rattle.std.specs.Prelude.{◌≡◌, ◌↔◌, ◌&&◌, ◌<◌, ◌≤◌, ◌⊎◌, ◌*◌, ◌+◌, ◌==◌, ℕ, Bool, List, [], ◌∷◌, ◌++◌, length, map, count_by, filter, not, nat_lt, max, min, Option, None, Some, true, false, if◌then◌else◌};
 ghost use Rattle.std.specs.List.{AllByRecursion};
 ghost use Rattle.turn_machine.specs.Lists.{times};

@@ -4,7 +4,8 @@ use Rattle.std.specs.Prelude.{◌==◌}
 use Rattle.std.proofs.lemmas.Bool.{cases_lt, eq-eqb, ne_eqb}
 use Rattle.std.proofs.lemmas.List.{length-map, length-replicate, get_or-replicate, get_or-map, get_or_past}
 use Rattle.std.proofs.lemmas.List.Sums.{sum_by-cons}
-use Rattle.turn_slots.specs.Tables.{FiveTuple, IsTable, client_at, deadline_at}
+use Rattle.turn_slots.specs.Tables.{IsTable, key_at, deadline_at}
+use Rattle.turn_slots.specs.Relays.{RelayKey}
 use Rattle.turn_slots.specs.Users.{UserId, is_user}
 use Rattle.turn_slots.specs.Slots.{Entry, is_users, is_live}
 use Rattle.turn_slots.specs.Groups.{Partition, number_in}
@@ -45,7 +46,7 @@ count_split f (x ∷ xs) =
     let one = one_or_none (f x) in
     omega (arith, a, b, rest, one)
 
-module _ (round : ℕ) (entries : List (Option Entry)) (clients : List (Option FiveTuple)) (users : List (Option UserId)) (holders : Partition) (deadlines : List ℕ)
+module _ (round : ℕ) (entries : List (Option Entry)) (clients : List (Option RelayKey)) (users : List (Option UserId)) (holders : Partition) (deadlines : List ℕ)
     (t : IsTable round entries clients users holders deadlines) where
   -- ---- Deadlines
 
@@ -211,17 +212,18 @@ none_in n i x is = elim (cases_lt i n) [
   | inr ge ↦ none_isnt x (sym (get_or_past (replicate {A = Option _} n None) i None (subst (λ (z : ℕ). z ≤ i) (sym (length-replicate {A = Option _} n None)) ge)) ∙ is)
 ]
 
-pub fresh_table : (n : ℕ) → n < 2 ^ 31 → (entries : List (Option Entry)) → entries ≡ replicate n None → (clients : List (Option FiveTuple)) → clients ≡ replicate n None
+pub fresh_table : (n : ℕ) → n < 2 ^ 24 → (entries : List (Option Entry)) → entries ≡ replicate n None → (clients : List (Option RelayKey)) → clients ≡ replicate n None
     → (users : List (Option UserId)) → users ≡ replicate n None → (holders : Partition) → holders ≡ record { groups = n + 1; group_of = replicate n (n + 1 - 1) }
     → (deadlines : List ℕ) → deadlines ≡ replicate n never → IsTable 0 entries clients users holders deadlines
-fresh_table n few entries entries_are clients clients_are users users_are holders holders_are deadlines deadlines_are =
+fresh_table n few entries entries_are clients keys_are users users_are holders holders_are deadlines deadlines_are =
     subst (λ (z : List (Option Entry)). IsTable 0 z clients users holders deadlines) (sym entries_are)
     (subst (λ (z : List (Option UserId)). IsTable 0 (replicate n None) clients z holders deadlines) (sym users_are)
     (subst (λ (z : Partition). IsTable 0 (replicate n None) clients (replicate n None) z deadlines) (sym holders_are)
     (let size : length (replicate {A = Option Entry} n None) ≡ n = length-replicate {A = Option Entry} n None in
     record {
       few = omega (arith, size, few);
-      clients_are = clients_are ∙ sym (map_replicate client_at n None);
+      bounded = omega arith;
+      keys_are = keys_are ∙ sym (map_replicate key_at n None);
       deadlines_are = deadlines_are ∙ sym (map_replicate deadline_at n None);
       users_are = record {
         groups = omega (arith, size);
@@ -232,7 +234,7 @@ fresh_table n few entries entries_are clients clients_are users users_are holder
         used = λ place u at. absurd (none_in n place u at);
         one = λ p q u at. absurd (none_in n p u at);
       };
-      one_client = λ i j a b at. absurd (none_in n i a at);
+      one_key = λ i j a b at. absurd (none_in n i a at);
       numbered = λ slot e at. absurd (none_in n slot e at);
       soon = λ slot e at. absurd (none_in n slot e at);
     })))

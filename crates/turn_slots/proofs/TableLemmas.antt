@@ -8,10 +8,12 @@ use Rattle.std.proofs.lemmas.List.Sums.{sum_by-set, sum_by-cons, get_or-le-sum_b
 use Rattle.stun_endpoints.specs.declared.endpoints.Ip.{Ip}
 use Rattle.stun_endpoints.specs.declared.endpoints.Endpoint.{Endpoint}
 use Rattle.stun_endpoints.specs.Endpoints.{is_ip, is_endpoint, is_tuple}
-use Rattle.turn_slots.specs.Tables.{FiveTuple, AreHeld, IsTable, IsPlaceOf, client_at, deadline_at}
+use Rattle.turn_slots.specs.Tables.{AreHeld, IsTable, IsPlaceOf, key_at, deadline_at}
 use Rattle.turn_slots.specs.Users.{UserId, is_user}
 use Rattle.turn_slots.specs.Slots.{Entry}
-use Rattle.turn_slots.specs.Numbers.{rounds}
+use Rattle.stun_endpoints.specs.declared.endpoints.FiveTuple.{FiveTuple}
+use Rattle.turn_slots.specs.Relays.{RelayKey, is_relay}
+use Rattle.turn_slots.specs.Numbers.{places, rounds}
 use Rattle.turn_slots.specs.Groups.{Partition, number_in}
 use Rattle.turn_slots.specs.Keys.{IsFullOf, is_key, has_key_at}
 use Rattle.turn_slots.specs.Deadlines.{never}
@@ -68,6 +70,16 @@ tuple_itself a =
     rw (eq-eqb a.client.ip.family a.client.ip.family refl, eq-eqb a.client.ip.number a.client.ip.number refl, eq-eqb a.client.port a.client.port refl, eq-eqb a.server.ip.family a.server.ip.family refl, eq-eqb a.server.ip.number a.server.ip.number refl, eq-eqb a.server.port a.server.port refl)
     (eq-eqb a.transport a.transport refl)
 
+pub relay_same : (a b : RelayKey) → is_relay a b ≡ true → a ≡ b
+relay_same a b e =
+    let parts = both_true (is_tuple a.tuple b.tuple) (a.family == b.family) e in
+    let c = tuple_same a.tuple b.tuple parts.0 in
+    let f = eqb-true a.family b.family parts.1 in
+    ap (λ (z : FiveTuple). record { tuple = z; family = a.family }) c ∙ ap (λ (z : ℕ). record { tuple = b.tuple; family = z }) f
+
+pub relay_itself : (a : RelayKey) → is_relay a a ≡ true
+relay_itself a = rw (tuple_itself a.tuple) (eq-eqb a.family a.family refl)
+
 -- ---- A list that is made of the entries
 
 pub map_at : {X : Type 0} (f : Option Entry → X) (xs : List (Option Entry)) (i : ℕ) → get_or (map f xs) i (f None) ≡ f (get_or xs i None)
@@ -78,36 +90,36 @@ map_at f xs i = elim (cases_lt i (length xs)) [
 
 -- ---- A client's slot
 
-module _ (entries : List (Option Entry)) (clients : List (Option FiveTuple)) (are : clients ≡ map client_at entries)
-    (client : FiveTuple) (slot : ℕ) where
-  clients_at : get_or clients slot None ≡ client_at (get_or entries slot None)
-  clients_at = ap (λ (z : List (Option FiveTuple)). get_or z slot None) are ∙ map_at client_at entries slot
+module _ (entries : List (Option Entry)) (clients : List (Option RelayKey)) (are : clients ≡ map key_at entries)
+    (client : RelayKey) (slot : ℕ) where
+  clients_at : get_or clients slot None ≡ key_at (get_or entries slot None)
+  clients_at = ap (λ (z : List (Option RelayKey)). get_or z slot None) are ∙ map_at key_at entries slot
 
-  key_is : has_key_at is_tuple clients slot client ≡ is_key is_tuple client (client_at (get_or entries slot None))
-  key_is = ap (is_key is_tuple client) clients_at
+  key_is : has_key_at is_relay clients slot client ≡ is_key is_relay client (key_at (get_or entries slot None))
+  key_is = ap (is_key is_relay client) clients_at
 
-  pub client_found : has_key_at is_tuple clients slot client ≡ true → (e : Entry) × (get_or entries slot None ≡ Some e) × (is_tuple client e.client ≡ true)
+  pub client_found : has_key_at is_relay clients slot client ≡ true → (e : Entry) × (get_or entries slot None ≡ Some e) × (is_relay client e.key ≡ true)
   client_found is = elim (none_or_some (get_or entries slot None)) [
-    | inl none ↦ absurd (false_isnt (sym (ap (λ (o : Option Entry). is_key is_tuple client (client_at o)) none) ∙ (sym key_is ∙ is)))
-    | inr it ↦ (it.0, it.1, sym (ap (λ (o : Option Entry). is_key is_tuple client (client_at o)) it.1) ∙ (sym key_is ∙ is))
+    | inl none ↦ absurd (false_isnt (sym (ap (λ (o : Option Entry). is_key is_relay client (key_at o)) none) ∙ (sym key_is ∙ is)))
+    | inr it ↦ (it.0, it.1, sym (ap (λ (o : Option Entry). is_key is_relay client (key_at o)) it.1) ∙ (sym key_is ∙ is))
   ]
 
-  pub client_absent : has_key_at is_tuple clients slot client ≡ false → (e : Entry) → get_or entries slot None ≡ Some e → is_tuple client e.client ≡ false
-  client_absent is e at = sym (ap (λ (o : Option Entry). is_key is_tuple client (client_at o)) at) ∙ (sym key_is ∙ is)
+  pub client_absent : has_key_at is_relay clients slot client ≡ false → (e : Entry) → get_or entries slot None ≡ Some e → is_relay client e.key ≡ false
+  client_absent is e at = sym (ap (λ (o : Option Entry). is_key is_relay client (key_at o)) at) ∙ (sym key_is ∙ is)
 
   -- a slot is free for both or for neither
   pub client_free : get_or clients slot None ≡ None → get_or entries slot None ≡ None
   client_free free = elim (none_or_some (get_or entries slot None)) [
     | inl none ↦ none
-    | inr it ↦ absurd (none_isnt it.0.client (sym free ∙ (clients_at ∙ ap client_at it.1)))
+    | inr it ↦ absurd (none_isnt it.0.key (sym free ∙ (clients_at ∙ ap key_at it.1)))
   ]
 
-  pub client_there : (e : Entry) → get_or entries slot None ≡ Some e → get_or clients slot None ≡ Some e.client
-  client_there e at = clients_at ∙ ap client_at at
+  pub client_there : (e : Entry) → get_or entries slot None ≡ Some e → get_or clients slot None ≡ Some e.key
+  client_there e at = clients_at ∙ ap key_at at
 
-  pub client_used : (k : FiveTuple) → get_or clients slot None ≡ Some k → (e : Entry) × (get_or entries slot None ≡ Some e)
+  pub client_used : (k : RelayKey) → get_or clients slot None ≡ Some k → (e : Entry) × (get_or entries slot None ≡ Some e)
   client_used k at = elim (none_or_some (get_or entries slot None)) [
-    | inl none ↦ absurd (none_isnt k (sym (clients_at ∙ ap client_at none) ∙ at))
+    | inl none ↦ absurd (none_isnt k (sym (clients_at ∙ ap key_at none) ∙ at))
     | inr it ↦ it
   ]
 
@@ -334,27 +346,28 @@ module _ (entries : List (Option Entry)) (users : List (Option UserId)) (holders
 
 -- ---- The table with another entry in a slot
 
-pub table_set : (round round2 : ℕ) (entries : List (Option Entry)) (clients clients2 : List (Option FiveTuple)) (users users2 : List (Option UserId)) (holders holders2 : Partition) (deadlines deadlines2 : List ℕ)
-    → IsTable round entries clients users holders deadlines → (slot : ℕ) → slot < length entries → (o : Option Entry)
-    → clients2 ≡ set clients slot (client_at o) → deadlines2 ≡ set deadlines slot (deadline_at o) → AreHeld (set entries slot o) users2 holders2
-    → ((e : Entry) → o ≡ Some e → (e.number % rounds ≡ slot) × (e.deadline < never) × ((j : ℕ) (b : Entry) → (j ≡ slot → ⊥) → get_or entries j None ≡ Some b → e.client ≡ b.client → ⊥))
+pub table_set : (round round2 : ℕ) (entries : List (Option Entry)) (clients clients2 : List (Option RelayKey)) (users users2 : List (Option UserId)) (holders holders2 : Partition) (deadlines deadlines2 : List ℕ)
+    → IsTable round entries clients users holders deadlines → round2 ≤ rounds → (slot : ℕ) → slot < length entries → (o : Option Entry)
+    → clients2 ≡ set clients slot (key_at o) → deadlines2 ≡ set deadlines slot (deadline_at o) → AreHeld (set entries slot o) users2 holders2
+    → ((e : Entry) → o ≡ Some e → (e.number % places ≡ slot) × (e.deadline < never) × ((j : ℕ) (b : Entry) → (j ≡ slot → ⊥) → get_or entries j None ≡ Some b → e.key ≡ b.key → ⊥))
     → IsTable round2 (set entries slot o) clients2 users2 holders2 deadlines2
-table_set round round2 entries clients clients2 users users2 holders holders2 deadlines deadlines2 t slot lt o clients_are deadlines_are held fits =
+table_set round round2 entries clients clients2 users users2 holders holders2 deadlines deadlines2 t bounded slot lt o keys_are deadlines_are held fits =
     let of_slot : (i : ℕ) (e : Entry) → i ≡ slot → get_or (set entries slot o) i None ≡ Some e → o ≡ Some e = λ i e here at. sym (get_or-set_same entries slot o None lt) ∙ (ap (λ (z : ℕ). get_or (set entries slot o) z None) (sym here) ∙ at) in
     let of_other : (i : ℕ) (e : Entry) → (i ≡ slot → ⊥) → get_or (set entries slot o) i None ≡ Some e → get_or entries i None ≡ Some e = λ i e there at. sym (get_or-set_other entries slot i o None there) ∙ at in
     record {
       few = let few = t.few in let size = length-set entries slot o in omega (arith, few, size);
-      clients_are = clients_are ∙ (ap (λ (z : List (Option FiveTuple)). set z slot (client_at o)) t.clients_are ∙ sym (map-set client_at entries slot o));
+      bounded = bounded;
+      keys_are = keys_are ∙ (ap (λ (z : List (Option RelayKey)). set z slot (key_at o)) t.keys_are ∙ sym (map-set key_at entries slot o));
       deadlines_are = deadlines_are ∙ (ap (λ (z : List ℕ). set z slot (deadline_at o)) t.deadlines_are ∙ sym (map-set deadline_at entries slot o));
       users_are = held;
-      one_client = λ i j a b at_i at_j same. elim (same_or_not i slot) [
+      one_key = λ i j a b at_i at_j same. elim (same_or_not i slot) [
         | inl i_is ↦ elim (same_or_not j slot) [
           | inl j_is ↦ i_is ∙ sym j_is
           | inr j_not ↦ absurd ((fits a (of_slot i a i_is at_i)).2 j b j_not (of_other j b j_not at_j) same)
         ]
         | inr i_not ↦ elim (same_or_not j slot) [
           | inl j_is ↦ absurd ((fits b (of_slot j b j_is at_j)).2 i a i_not (of_other i a i_not at_i) (sym same))
-          | inr j_not ↦ t.one_client i j a b (of_other i a i_not at_i) (of_other j b j_not at_j) same
+          | inr j_not ↦ t.one_key i j a b (of_other i a i_not at_i) (of_other j b j_not at_j) same
         ]
       ];
       numbered = λ i e at. elim (same_or_not i slot) [

@@ -8,3 +8,4 @@ pub mod Groups
 pub mod Keys
 pub mod Tables
 pub mod Iterating
+pub mod Relays

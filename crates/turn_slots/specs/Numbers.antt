@@ -1,24 +1,19 @@
--- Relay numbers: each has its slot in its low 32 bits, and in its high 32 bits a count of the openings.
-use Rattle.std.specs.Prelude.{◌≡◌, ℕ, zero, suc, ◌+◌, ◌*◌, ◌%◌, ◌<◌}
+-- Relay numbers: each has its slot in its low 24 bits, and above them the openings before it.
+use Rattle.std.specs.Prelude.{ℕ, ◌+◌, ◌*◌, ◌<◌}
 
--- 2^32
+-- how many slots there can be: 2^24
+abbrev pub places : ℕ
+places = 16_777_216
+
+-- how many openings there can be: 2^40
 abbrev pub rounds : ℕ
-rounds = 4_294_967_296
+rounds = 1_099_511_627_776
 
 abbrev pub number_at : (round slot : ℕ) → ℕ
-number_at round slot = round * rounds + slot
+number_at round slot = round * places + slot
 
--- the count of openings after one more, modulo 2^32
-abbrev pub next_round : ℕ → ℕ
-next_round round = (round + 1) % rounds
-
-abbrev pub round_after : (round openings : ℕ) → ℕ
-round_after round zero = round
-round_after round (suc n) = next_round (round_after round n)
-
--- the numbers of two openings differ, if the second is fewer than 2^32 openings after the first
-abbrev pub NumbersAreNew : Type 0
-NumbersAreNew =
-    (round n between slot other : ℕ) → round < rounds → slot < rounds → other < rounds
-    → 0 < between → between < rounds
-    → number_at (round_after round n) slot ≡ number_at (round_after round (n + between)) other → ⊥
+-- each number is above those of all openings before
+abbrev pub NumbersGrow : Type 0
+NumbersGrow =
+    (earlier later slot other : ℕ) → slot < places → earlier < later
+    → number_at earlier slot < number_at later other

@@ -1,11 +1,11 @@
 -- The slots of a TURN server's allocations (RFC 8656, section 6).
-use Rattle.std.specs.Prelude.{◌≡◌, ℕ, ◌<◌, Bool, true, false, List, Option, None, Some, length, slice_index_or, slice_set}
+use Rattle.std.specs.Prelude.{◌≡◌, ℕ, ◌+◌, ◌<◌, ◌⊎◌, Bool, true, false, List, Option, None, Some, length, slice_index_or, slice_set}
 use Rattle.turn_slots.specs.Users.{UserId, is_user}
-use Rattle.turn_slots.specs.Numbers.{next_round}
+use Rattle.turn_slots.specs.Numbers.{rounds}
 use Rattle.turn_slots.specs.declared.hashing.Secret.{Secret}
 pub use Rattle.turn_slots.specs.declared.slots.Entry.{Entry}
 
--- what each slot has, how many allocations were opened, modulo 2^32, and the key of the hashes
+-- what each slot has, how many allocations were opened, and the key of the hashes
 pub record State : Type 0 where
   pub entries : List (Option Entry)
   pub round : ℕ
@@ -26,6 +26,10 @@ Each state P = (slot : ℕ) (e : Entry) → Holds state slot e → P e
 abbrev pub IsFull : State → Type 0
 IsFull state = (slot : ℕ) → slot < length state.entries → (e : Entry) × Holds state slot e
 
+-- no slot is free, or there have been as many openings as there can be
+abbrev pub IsClosed : State → Type 0
+IsClosed state = IsFull state ⊎ (state.round ≡ rounds)
+
 abbrev pub is_live : Option Entry → Bool
 is_live None = false
 is_live (Some e) = true
@@ -39,9 +43,10 @@ is_users user (Some e) = is_user user e.user
 pub record Opens (slot : ℕ) (e : Entry) (old new : State) : Type 0 where
   pub within : slot < length old.entries
   pub free : at_slot old slot ≡ None
+  pub early : old.round < rounds
   pub state : new ≡ record old {
     entries = slice_set old.entries slot (Some e);
-    round = next_round old.round;
+    round = old.round + 1;
   }
 
 -- the slot is free, and nothing else changes

@@ -1,15 +1,15 @@
 -- What is kept beside the entries, by which each call finds what it needs.
-use Rattle.std.specs.Prelude.{◌≡◌, ℕ, ◌+◌, ◌%◌, ◌<◌, ◌^◌, List, Option, None, Some, length, map, slice_index, slice_index_or}
-pub use Rattle.stun_endpoints.specs.declared.endpoints.FiveTuple.{FiveTuple}
+use Rattle.std.specs.Prelude.{◌≡◌, ℕ, ◌+◌, ◌%◌, ◌<◌, ◌≤◌, ◌^◌, List, Option, None, Some, length, map, slice_index, slice_index_or}
+use Rattle.turn_slots.specs.Relays.{RelayKey}
 use Rattle.turn_slots.specs.Users.{UserId}
-use Rattle.turn_slots.specs.Numbers.{rounds}
+use Rattle.turn_slots.specs.Numbers.{places, rounds}
 use Rattle.turn_slots.specs.Slots.{Entry}
 use Rattle.turn_slots.specs.Groups.{Partition, number_in}
 use Rattle.turn_slots.specs.Deadlines.{never}
 
-abbrev pub client_at : Option Entry → Option FiveTuple
-client_at None = None
-client_at (Some e) = Some e.client
+abbrev pub key_at : Option Entry → Option RelayKey
+key_at None = None
+key_at (Some e) = Some e.key
 
 abbrev pub deadline_at : Option Entry → ℕ
 deadline_at None = never
@@ -30,16 +30,17 @@ pub record AreHeld (entries : List (Option Entry)) (users : List (Option UserId)
   pub one : (p q : ℕ) (user : UserId) → slice_index_or users p None ≡ Some user
       → slice_index_or users q None ≡ Some user → p ≡ q
 
-pub record IsTable (round : ℕ) (entries : List (Option Entry)) (clients : List (Option FiveTuple))
+pub record IsTable (round : ℕ) (entries : List (Option Entry)) (keys : List (Option RelayKey))
     (users : List (Option UserId)) (holders : Partition) (deadlines : List ℕ) : Type 0 where
-  pub few : length entries < 2 ^ 31
-  pub clients_are : clients ≡ map client_at entries
+  pub few : length entries < 2 ^ 24
+  pub bounded : round ≤ rounds
+  pub keys_are : keys ≡ map key_at entries
   pub deadlines_are : deadlines ≡ map deadline_at entries
   pub users_are : AreHeld entries users holders
-  pub one_client : (i j : ℕ) (a b : Entry) → slice_index_or entries i None ≡ Some a
-      → slice_index_or entries j None ≡ Some b → a.client ≡ b.client → i ≡ j
+  pub one_key : (i j : ℕ) (a b : Entry) → slice_index_or entries i None ≡ Some a
+      → slice_index_or entries j None ≡ Some b → a.key ≡ b.key → i ≡ j
   pub numbered : (slot : ℕ) (e : Entry) → slice_index_or entries slot None ≡ Some e
-      → e.number % rounds ≡ slot
+      → e.number % places ≡ slot
   pub soon : (slot : ℕ) (e : Entry) → slice_index_or entries slot None ≡ Some e
       → e.deadline < never
 

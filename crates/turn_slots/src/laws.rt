@@ -1,12 +1,12 @@
 //! What follows from the definitions that the contracts use.
 
 ghost use Rattle.turn_slots.specs.Lists.{ListsAgree};
-ghost use Rattle.turn_slots.specs.Numbers.{NumbersAreNew};
+ghost use Rattle.turn_slots.specs.Numbers.{NumbersGrow};
 ghost use Rattle.turn_slots.specs.Users.{UserNumbersAreTheirBytes};
 
-/// The numbers of two openings differ if the second is fewer than 2^32 openings after the first.
-pub fn numbers_are_new()
-    ensures { NumbersAreNew }
+/// The number of each opening is above those of all openings before it.
+pub fn numbers_grow()
+    ensures { NumbersGrow }
 {}
 
 /// But for the order, an opening puts an allocation in front of the list of all, an end takes it out,

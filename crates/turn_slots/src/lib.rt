@@ -8,10 +8,12 @@ mod hashing;
 mod iter;
 mod keys;
 mod laws;
+mod relay_key;
 mod slots;
 mod users;
 
 pub use iter::Iter;
-pub use laws::{lists_agree, numbers_are_new, user_numbers_are_their_bytes};
+pub use laws::{lists_agree, numbers_grow, user_numbers_are_their_bytes};
+pub use relay_key::RelayKey;
 pub use slots::{Entry, Slots};
 pub use users::UserId;

@@ -1,40 +1,43 @@
 //! The slots of a TURN server's allocations.
 
 ghost use Rattle.std.specs.Prelude.{◌≡◌, ◌≢◌, ℕ, ◌+◌, ◌-◌, ◌<◌, ◌≤◌, ◌^◌, ◌==◌, true, false, length, None, Some, IfOk, IfSome, IfNone, MatchOption, IsTrue, count_by, replicate, slice_set};
-ghost use Rattle.stun_endpoints.specs.Endpoints.{is_tuple};
+ghost use Rattle.turn_slots.specs.Relays.{is_relay};
 ghost use Rattle.turn_slots.specs.Deadlines.{never};
 ghost use Rattle.turn_slots.specs.Hashes.{secret_of};
 ghost use Rattle.turn_slots.specs.Iterating.{taken_from, taken_left};
 ghost use Rattle.turn_slots.specs.Keys.{IsFullOf};
 ghost use Rattle.turn_slots.specs.Numbers.{number_at};
 ghost use Rattle.turn_slots.specs.Users.{is_user};
-ghost use Rattle.turn_slots.specs.Slots.{at_slot, Holds, Each, IsFull, is_live, is_users, Opens, without, Ends};
+ghost use Rattle.turn_slots.specs.Slots.{at_slot, Holds, Each, IsClosed, is_live, is_users, Opens, without, Ends};
 ghost use Rattle.turn_slots.specs.Tables.{IsPlaceOf};
 
 use crate::deadlines::{Deadlines, NEVER};
 use crate::groups::Groups;
 use crate::iter::Iter;
 use crate::keys::Keys;
+use crate::relay_key::RelayKey;
 use crate::users::UserId;
 use std::alloc::{AllocError, Global};
 use std::marker::Model;
-use stun_endpoints::FiveTuple;
 
 /// A relay number modulo this is its slot.
-const ROUNDS: u64 = 4_294_967_296;
+const PLACES: u64 = 16_777_216;
+
+/// How many openings there are at most.
+const ROUNDS: u64 = 1_099_511_627_776;
 
 /// The allocation in a slot.
 #[derive(Clone, Copy, Debug, PartialEq, Eq)]
 pub struct Entry {
-    /// The client, which has no other allocation (RFC 8656, section 6).
-    pub client: FiveTuple,
+    /// The client, and the family of the relayed address.
+    pub key: RelayKey,
     /// The user who opened it.
     pub user: UserId,
     /// The relay number: the slot in its low 32 bits, and in its high 32 bits a counter of openings, so
     /// that a number is used again only after 2^32 openings.
     pub number: u64,
     /// When it ends, by the caller's clock.
-    pub deadline: u64,
+    pub deadline: u128,
 }
 
 /// The allocations of a TURN server, each in a slot of its own (RFC 8656, section 6).
@@ -48,17 +51,16 @@ pub struct Entry {
 /// too, takes up to log2 of the capacity steps. [`Slots::iter`] alone walks over all slots.
 ///
 /// ```
-/// use stun_endpoints::FiveTuple;
 /// use turn_slots::{Slots, UserId};
 ///
 /// let mut slots = Slots::new(alloc, 100, [1, 2])?;
 /// let client = FiveTuple::default();
 /// let user = UserId::from([1; 32]);
-/// assert!(rt; slots.find_by_client(&client).is_none());
+/// assert!(rt; slots.find_by_key(&client).is_none());
 ///
 /// let slot = slots.open(client, user, 600).unwrap_or(0);
 /// let number = slots.entries()[slot].map_or(0, |entry| entry.number);
-/// assert_eq!(rt; slots.find_by_client(&client), Some(slot));
+/// assert_eq!(rt; slots.find_by_key(&client), Some(slot));
 /// assert_eq!(rt; slots.find_by_number(number), Some(slot));
 /// assert_eq!(rt; slots.count_by_user(user), 1);
 ///
@@ -69,10 +71,10 @@ pub struct Entry {
 #[derive(Drop)]
 pub struct Slots {
     /// How many allocations were opened, modulo 2^32.
-    round: u32,
+    round: u64,
     entries: Vec<Option<Entry>>,
     /// The client of each slot.
-    clients: Keys<FiveTuple>,
+    keys: Keys<RelayKey>,
     /// The users with allocations.
     users: Keys<UserId>,
     /// The slots of each user's place, and after them the free slots.
@@ -90,12 +92,12 @@ impl Model for Slots {
     ghost view = { λ t. record {
       entries = t.entries.items;
       round = t.round;
-      secret = t.clients.0;
+      secret = t.keys.0;
     } };
 
     ghost invariant = { λ t. record {
-      table : IsTable t.round t.entries.items t.clients.1 t.users.1 t.holders t.deadlines;
-      secret : t.users.0 ≡ t.clients.0;
+      table : IsTable t.round t.entries.items t.keys.1 t.users.1 t.holders t.deadlines;
+      secret : t.users.0 ≡ t.keys.0;
     } };
 }
 
@@ -121,13 +123,13 @@ impl Slots {
     ///
     /// # Requires
     ///
-    /// `capacity` is below 2^31.
+    /// `capacity` is below 2^24.
     ///
     /// # Errors
     ///
     /// Only if an allocation failed.
     pub fn new(alloc: Global, capacity: u32, seed: [u64; 2]) -> Result<Self, AllocError>
-        requires { capacity < 2 ^ 31 }
+        requires { capacity < 2 ^ 24 }
         ensures { IfOk result (λ slots. slots
             ≡ record { entries = replicate capacity None; round = 0; secret = secret_of seed }) }
     {
@@ -137,7 +139,7 @@ impl Slots {
         Ok(Slots {
             round: 0,
             entries,
-            clients: Keys::new(alloc, places, seed)?,
+            keys: Keys::new(alloc, places, seed)?,
             users: Keys::new(alloc, places, seed)?,
             holders: Groups::new(alloc, places + 1, places)?,
             deadlines: Deadlines::new(alloc, places)?,
@@ -185,26 +187,14 @@ impl Slots {
     }
 
     /// Returns the slot of the client's allocation, or `None` if the client has none.
-    ///
-    /// ```
-    /// use stun_endpoints::FiveTuple;
-    /// use turn_slots::{Slots, UserId};
-    ///
-    /// let mut slots = Slots::new(alloc, 4, [1, 2])?;
-    /// let tuple = FiveTuple { transport: 17, ..FiveTuple::default() };
-    /// let slot = slots.open(tuple, UserId::default(), 600);
-    /// assert_eq!(rt; slots.find_by_client(&tuple), slot);
-    /// let over_tcp = FiveTuple { transport: 6, ..tuple };
-    /// assert_eq!(rt; slots.find_by_client(&over_tcp), None);
-    /// ```
-    pub fn find_by_client(&self, client: &FiveTuple) -> Option<usize>
+    pub fn find_by_key(&self, key: &RelayKey) -> Option<usize>
         ensures some { IfSome result (λ slot. (e : _) × Holds self.now slot e
-            × (is_tuple client.now e.client ≡ true)) }
-        ensures none { IfNone result (Each self.now (λ e. is_tuple client.now e.client ≡ false)) }
+            × (is_relay key.now e.key ≡ true)) }
+        ensures none { IfNone result (Each self.now (λ e. is_relay key.now e.key ≡ false)) }
         ensures only { (slot : ℕ) (e : _) → Holds self.now slot e
-            → is_tuple client.now e.client ≡ true → result ≡ Some slot }
+            → is_relay key.now e.key ≡ true → result ≡ Some slot }
     {
-        self.clients.find(client)
+        self.keys.find(key)
     }
 
     /// Returns the slot of the allocation with a relay number, or `None` if no allocation has it.
@@ -214,7 +204,7 @@ impl Slots {
         ensures only { (slot : ℕ) (e : _) → Holds self.now slot e → e.number ≡ number
             → result ≡ Some slot }
     {
-        let slot = (number % ROUNDS) as usize;
+        let slot = (number % PLACES) as usize;
         match self.entries.get(slot) {
             Some(Some(entry)) if entry.number == number => Some(slot),
             _ => None,
@@ -242,7 +232,7 @@ impl Slots {
     }
 
     /// Returns the least deadline of all allocations, or `None` if there are none.
-    pub fn next_deadline(&self) -> Option<u64>
+    pub fn next_deadline(&self) -> Option<u128>
         ensures some { IfSome result (λ due. ((slot : ℕ) × (e : _) × Holds self.now slot e
             × (e.deadline ≡ due)) × Each self.now (λ e. due ≤ e.deadline)) }
         ensures none { IfNone result ((slot : ℕ) → slot < length self.now.entries
@@ -261,27 +251,30 @@ impl Slots {
     ///
     /// # Requires
     ///
-    /// The client has no allocation, so that [`Slots::find_by_client`] returns `None`, and `deadline` is
-    /// below `u64::MAX`.
-    pub fn open(&mut self, client: FiveTuple, user: UserId, deadline: u64) -> Option<usize>
-        requires client { Each self.old (λ e. is_tuple client e.client ≡ false) }
+    /// The client has no allocation, so that [`Slots::find_by_key`] returns `None`, and `deadline` is below
+    /// `u128::MAX`.
+    pub fn open(&mut self, key: RelayKey, user: UserId, deadline: u128) -> Option<usize>
+        requires key { Each self.old (λ e. is_relay key e.key ≡ false) }
         requires deadline { deadline < never }
         ensures some { IfSome result (λ slot. Opens slot (record {
-          client = client;
+          key = key;
           user = user;
           number = number_at self.old.round slot;
           deadline = deadline;
         }) self.old self.new) }
-        ensures none { IfNone result (IsFull self.old × (self.new ≡ self.old)) }
+        ensures none { IfNone result (IsClosed self.old × (self.new ≡ self.old)) }
     {
-        let slot = self.clients.add(client)?;
+        if self.round == ROUNDS {
+            return None;
+        }
+        let slot = self.keys.add(key)?;
         let holder = place_of(&mut self.users, user);
         self.holders.move_to(slot, holder);
         self.deadlines.set(slot, deadline);
-        let number = self.round as u64 * ROUNDS + slot as u64;
-        self.round = self.round.wrapping_add(1);
+        let number = self.round * PLACES + slot as u64;
+        self.round += 1;
         self.entries[slot] = Some(Entry {
-            client,
+            key,
             user,
             number,
             deadline,
@@ -295,21 +288,8 @@ impl Slots {
     ///
     /// # Requires
     ///
-    /// `deadline` is below `u64::MAX`.
-    ///
-    /// ```
-    /// use stun_endpoints::FiveTuple;
-    /// use turn_slots::{Slots, UserId};
-    ///
-    /// let mut slots = Slots::new(alloc, 4, [1, 2])?;
-    /// let slot = slots.open(FiveTuple::default(), UserId::default(), 600).unwrap_or(0);
-    /// assert!(rt; slots.set_deadline(slot, 900));
-    /// assert_eq!(rt; slots.next_deadline(), Some(900));
-    /// assert_eq!(rt; slots.end(slot).map(|entry| entry.deadline), Some(900));
-    /// assert!(rt; !slots.set_deadline(slot, 1000));
-    /// assert_eq!(rt; slots.next_deadline(), None);
-    /// ```
-    pub fn set_deadline(&mut self, slot: usize, deadline: u64) -> bool
+    /// `deadline` is below `u128::MAX`.
+    pub fn set_deadline(&mut self, slot: usize, deadline: u128) -> bool
         requires { deadline < never }
         ensures { MatchOption (at_slot self.old slot) ((result ≡ false) × (self.new ≡ self.old))
             (λ e. (result ≡ true) × (self.new ≡ record self.old {
@@ -338,7 +318,7 @@ impl Slots {
             _ => return None,
         };
         let holder = self.holders.group_of(slot);
-        self.clients.remove(slot);
+        self.keys.remove(slot);
         self.holders.move_to(slot, self.entries.len());
         if self.holders.count(holder) == 0 {
             self.users.remove(holder);
@@ -398,7 +378,7 @@ impl Slots {
     }
 
     /// Returns the slot with the least deadline, if that is at most `now`.
-    fn first_due(&self, now: u64) -> Option<usize>
+    fn first_due(&self, now: u128) -> Option<usize>
         ensures some { IfSome result (λ slot. (e : _) × Holds self.now slot e × (e.deadline ≤ now)
             × Each self.now (λ other. e.deadline ≤ other.deadline)) }
         ensures none { IfNone result (Each self.now (λ e. now < e.deadline)) }
@@ -414,23 +394,7 @@ impl Slots {
     /// slot. Call it until it returns `None` to end all that are due.
     ///
     /// Returns `None`, and changes nothing, if every deadline is after `now`.
-    ///
-    /// ```
-    /// use stun_endpoints::FiveTuple;
-    /// use turn_slots::{Slots, UserId};
-    ///
-    /// let mut slots = Slots::new(alloc, 4, [1, 2])?;
-    /// let (udp, tcp) = (17, 6);
-    /// for (transport, deadline) in [(udp, 700), (tcp, 600)] {
-    ///     let tuple = FiveTuple { transport, ..FiveTuple::default() };
-    ///     assert!(rt; slots.open(tuple, UserId::default(), deadline).is_some());
-    /// }
-    /// assert_eq!(rt; slots.next_deadline(), Some(600));
-    /// let ended = slots.end_due(800);
-    /// assert!(rt; ended.is_some_and(|(_slot, entry)| entry.client.transport == tcp));
-    /// assert_eq!(rt; slots.next_deadline(), Some(700));
-    /// ```
-    pub fn end_due(&mut self, now: u64) -> Option<(usize, Entry)>
+    pub fn end_due(&mut self, now: u128) -> Option<(usize, Entry)>
         ensures some { IfSome result (λ ended. Ends (λ e. (e.deadline ≤ now)
             × Each self.old (λ other. e.deadline ≤ other.deadline))
             ended.0 ended.1 self.old self.new) }

@@ -1,0 +1,3 @@
+pub mod NewestLemmas
+mod SlotsLemmas
+mod DistinctLemmas

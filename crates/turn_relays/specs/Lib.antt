@@ -1,0 +1,4 @@
+pub mod Newest
+pub mod Relayed
+pub mod Tables
+pub mod Granted

@@ -1,0 +1,12 @@
+-- What is in slots, as a list: the greatest number first, which is the newest.
+use Rattle.std.specs.Prelude.{ℕ, Bool, List, [], ◌∷◌, Option, None, Some, nat_lt, if◌then◌else◌}
+
+-- before the first whose number isn't greater
+abbrev pub put : {X : Type 0} → (X → ℕ) → X → List X → List X
+put number x [] = x ∷ []
+put number x (y ∷ ys) = if nat_lt (number x) (number y) then y ∷ put number x ys else x ∷ y ∷ ys
+
+abbrev pub newest_first : {X : Type 0} → (X → ℕ) → List (Option X) → List X
+newest_first number [] = []
+newest_first number (None ∷ slots) = newest_first number slots
+newest_first number (Some x ∷ slots) = put number x (newest_first number slots)

@@ -1,0 +1,111 @@
+-- What is in the slots: relayed addresses, as the machine has them.
+use Rattle.std.specs.Prelude.{◌≡◌, ◌⊎◌, ℕ, ◌+◌, ◌*◌, ◌<◌, ◌≤◌, List, [], ◌∷◌, Bool, Option, None, Some, is_some, length, slice_index_or, slice_set}
+use Rattle.stun_endpoints.specs.declared.endpoints.Endpoint.{Endpoint}
+use Rattle.turn_slots.specs.declared.relay_key.RelayKey.{RelayKey}
+use Rattle.turn_slots.specs.declared.slots.Entry.{Entry}
+use Rattle.turn_slots.specs.Users.{user_number}
+use Rattle.turn_slots.specs.Numbers.{rounds}
+use Rattle.turn_slots.specs.declared.hashing.Secret.{Secret}
+use Rattle.turn_machine.specs.declared.grants.Permission.{Permission}
+use Rattle.turn_machine.specs.declared.grants.Channel.{Channel}
+use Rattle.turn_machine.specs.Relays.{Relay, State}
+use Rattle.turn_relays.specs.Newest.{newest_first}
+
+-- what is kept of a relayed address beside its slot
+pub record Grants : Type 0 where
+  pub opened_by : ℕ
+  pub address : Endpoint
+  pub permissions : List Permission
+  pub channels : List Channel
+
+abbrev pub new_grants : (opened_by : ℕ) → Endpoint → Grants
+new_grants opened_by address = record {
+  opened_by = opened_by;
+  address = address;
+  permissions = [];
+  channels = [];
+}
+
+abbrev pub relay_of : Entry → Grants → Relay
+relay_of e g = record {
+  tuple = e.key.tuple;
+  user = user_number e.user;
+  opened_by = g.opened_by;
+  family = e.key.family;
+  number = e.number;
+  address = g.address;
+  until = e.deadline;
+  permissions = g.permissions;
+  channels = g.channels;
+}
+
+abbrev pub joined : Option Entry → Option Grants → Option Relay
+joined None grants = None
+joined (Some e) None = None
+joined (Some e) (Some g) = Some (relay_of e g)
+
+abbrev pub relays_in : List (Option Entry) → List (Option Grants) → List (Option Relay)
+relays_in [] kept = []
+relays_in (e ∷ es) [] = None ∷ relays_in es []
+relays_in (e ∷ es) (k ∷ kept) = joined e k ∷ relays_in es kept
+
+-- the clock; the least number for the next socket; how many were opened; the key of the hashes; and
+-- the relayed address of each slot
+pub record Table : Type 0 where
+  pub clock : ℕ
+  pub next : ℕ
+  pub openings : ℕ
+  pub secret : Secret
+  pub slots : List (Option Relay)
+
+abbrev pub number_of : Relay → ℕ
+number_of r = r.number
+
+-- the state of the machine: the newest first
+abbrev pub state_of : Table → State
+state_of t = record {
+  clock = t.clock;
+  next = t.next;
+  relays = newest_first number_of t.slots;
+}
+
+abbrev pub at_slot : Table → (slot : ℕ) → Option Relay
+at_slot t slot = slice_index_or t.slots slot None
+
+abbrev pub Holds : Table → (slot : ℕ) → Relay → Type 0
+Holds t slot r = at_slot t slot ≡ Some r
+
+abbrev pub Each : Table → (Relay → Type 0) → Type 0
+Each t P = (slot : ℕ) (r : Relay) → Holds t slot r → P r
+
+-- a slot is set, and nothing else changes
+abbrev pub with_slot : (slot : ℕ) → Option Relay → Table → Table
+with_slot slot r t = record t { slots = slice_set t.slots slot r }
+
+-- no slot is free, or there have been as many openings as there can be
+abbrev pub IsClosed : Table → Type 0
+IsClosed t = ((slot : ℕ) → slot < length t.slots → (r : Relay) × Holds t slot r) ⊎ (t.openings ≡ rounds)
+
+abbrev pub opened : RelayKey → (user opened_by : ℕ) → Endpoint → (until number : ℕ) → Relay
+opened key user opened_by address until number = record {
+  tuple = key.tuple;
+  user = user;
+  opened_by = opened_by;
+  family = key.family;
+  number = number;
+  address = address;
+  until = until;
+  permissions = [];
+  channels = [];
+}
+
+-- a free slot gets the relayed address, whose number is above all before
+pub record Opens (slot : ℕ) (r : Relay) (old new : Table) : Type 0 where
+  pub within : slot < length old.slots
+  pub free : at_slot old slot ≡ None
+  pub number : old.next ≤ r.number
+  pub state : new ≡ record old {
+    next = r.number + 1;
+    openings = old.openings + 1;
+    slots = slice_set old.slots slot (Some r);
+  }

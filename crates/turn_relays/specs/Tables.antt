@@ -1,0 +1,20 @@
+-- What the slots and what is kept beside them have to do with each other.
+use Rattle.std.specs.Prelude.{◌≡◌, ℕ, ◌*◌, ◌<◌, ◌≤◌, ◌^◌, List, Option, None, Some, is_some, length, slice_index_or}
+use Rattle.turn_slots.specs.declared.slots.Entry.{Entry}
+use Rattle.turn_slots.specs.Slots.{State}
+use Rattle.turn_slots.specs.Numbers.{places}
+use Rattle.turn_relays.specs.Relayed.{Grants}
+
+-- a user's number is of 256 bits
+abbrev pub IsUser : Entry → Type 0
+IsUser e = e.user.low < 2 ^ 128
+
+-- something is kept beside each slot that has an allocation, and nothing beside the others; and the
+-- next number is above all
+pub record IsTable (next : ℕ) (slots : State) (kept : List (Option Grants)) : Type 0 where
+  pub few : length slots.entries < places
+  pub size : length kept ≡ length slots.entries
+  pub beside : (i : ℕ) → is_some (slice_index_or slots.entries i None) ≡ is_some (slice_index_or kept i None)
+  pub fresh : next ≤ slots.round * places
+  pub below : (i : ℕ) (e : Entry) → slice_index_or slots.entries i None ≡ Some e → e.number < next
+  pub users : (i : ℕ) (e : Entry) → slice_index_or slots.entries i None ≡ Some e → IsUser e
