@@ -141,8 +141,10 @@ impl<'a, S: Drop> Relay<'a, S> {
                 if let Some(opened) = response.opened {
                     self.keep(opened)?;
                 }
-                let (bytes, _) = buffer.split_at(response.written?);
-                Ok(Sending::ToClient(bytes))
+                let written = response.written?;
+                Ok(buffer
+                    .get(..written)
+                    .map_or(Sending::Nothing, Sending::ToClient))
             }
             Action::ToPeer { relay, peer, data } => {
                 match (self.sockets.get(&relay), data.of(datagram)) {
