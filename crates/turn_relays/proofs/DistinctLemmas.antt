@@ -14,7 +14,6 @@ use Rattle.turn_relays.specs.Granted.{AreDistinct}
 use Rattle.std.proofs.lemmas.List.{drop_more}
 use Rattle.turn_machine.proofs.AddressesLemmas.{ip_same}
 
-
 neither : (x y : Bool) → x ≡ false → y ≡ false → (x || y) ≡ false
 neither false y isnt nor = nor
 neither true y isnt nor = absurd cc

@@ -1,10 +1,9 @@
 -- Relayed addresses, of the slots and of what is kept beside them.
 use Rattle.std.proofs.Common.{◌≡◌, ℕ, ◌+◌, ◌*◌, ◌<◌, ◌^◌, zero, suc, Bool, true, false, cond, List, [], ◌∷◌, length, Option, None, Some, get_or, set, replicate, refl, sym, ap, ◌∙◌, subst, eq-eqb, eqb-true, ne_eqb, arith, inl, inr}
 use Rattle.std.specs.Prelude.{◌⊎◌, ◌==◌, ◌&&◌, is_some, count_by}
-use Rattle.std.specs.Option.{IfSome, IfNone}
+use Rattle.std.specs.Option.{IfSome, IfNone, option_map, option_map_or}
 use Rattle.std.proofs.lemmas.Bool.{and_parts}
 use Rattle.std.proofs.lemmas.List.Sums.{sum_by-cons}
-use Rattle.stun_endpoints.specs.declared.endpoints.FiveTuple.{FiveTuple}
 use Rattle.stun_endpoints.specs.Endpoints.{is_tuple}
 use Rattle.turn_slots.specs.declared.relay_key.RelayKey.{RelayKey}
 use Rattle.turn_slots.specs.declared.users.UserId.{UserId}
@@ -18,7 +17,7 @@ use Rattle.turn_relays.specs.Tables.{IsTable}
 use Rattle.turn_machine.specs.Relays.{Relay, is_for, is_users, is_at}
 use Rattle.turn_relays.specs.Newest.{newest_first}
 use Rattle.turn_relays.proofs.NewestLemmas.{passes, newest_count, newest_length}
-use Rattle.turn_relays.specs.Relayed.{Grants, relay_of, joined, relays_in, number_of}
+use Rattle.turn_relays.specs.Relayed.{Grants, grants_of, relay_of, joined, relays_in, number_of}
 
 -- ---- A slot, and what is kept beside it
 
@@ -126,9 +125,9 @@ module _ (p : Option Relay → Bool) (q : Option Entry → Bool) (B : Entry → 
       let one : p None ≡ q e = one_alone e (beside 0) in
       count_cons p None (relays_in es []) ∙ (ap (λ (b : Bool). cond b 1 0 + count_by p (relays_in es [])) one ∙ (ap (λ (n : ℕ). cond (q e) 1 0 + n) more ∙ sym (count_cons q e es)))
     where
-    one_alone : (o : Option Entry) → is_some o ≡ false → p None ≡ q o
-    one_alone None alone = none
-    one_alone (Some x) alone = absurd cc
+      one_alone : (o : Option Entry) → is_some o ≡ false → p None ≡ q o
+      one_alone None alone = none
+      one_alone (Some x) alone = absurd cc
   of_slots (e ∷ es) (k ∷ ks) beside each =
       let more = of_slots es ks (λ i. beside (suc i)) (λ i. each (suc i)) in
       count_cons p (joined e k) (relays_in es ks)
@@ -344,3 +343,35 @@ all_taken es ks beside full slot low =
     let it = full slot (omega (arith, low, size)) in
     let there = relay_there es ks beside slot it.0 it.1 in
     (relay_of it.0 there.0, there.2)
+
+-- ---- What is granted
+
+-- what is kept is what the relayed address of the slot grants
+grants_joined : (o : Option Entry) (k : Option Grants) → is_some o ≡ is_some k → k ≡ option_map grants_of (joined o k)
+grants_joined None None beside = refl
+grants_joined None (Some g) beside = absurd cc
+grants_joined (Some e) None beside = refl
+grants_joined (Some e) (Some g) beside = refl
+
+pub grants_at : (es : List (Option Entry)) (ks : List (Option Grants)) → ((i : ℕ) → is_some (get_or es i None) ≡ is_some (get_or ks i None))
+    → (i : ℕ) → get_or ks i None ≡ option_map grants_of (get_or (relays_in es ks) i None)
+grants_at es ks beside i =
+    grants_joined (get_or es i None) (get_or ks i None) (beside i) ∙ ap (option_map grants_of) (sym (relay_at es ks i))
+
+-- what is asked of a relayed address, where that is asked of what is kept
+pub asked_of : {A : Type 0} (f : Relay → A) (h : Grants → A) (none : A) (o : Option Relay) → ((r : Relay) → o ≡ Some r → f r ≡ h (grants_of r)) → (k : Option Grants) → k ≡ option_map grants_of o
+    → option_map_or h k none ≡ option_map_or f o none
+asked_of f h none None same k is = ap (λ (z : Option Grants). option_map_or h z none) is
+asked_of f h none (Some r) same k is = ap (λ (z : Option Grants). option_map_or h z none) is ∙ sym (same r refl)
+
+pub kept_is : (es : List (Option Entry)) (ks : List (Option Grants)) → ((i : ℕ) → is_some (get_or es i None) ≡ is_some (get_or ks i None))
+    → (slot : ℕ) (items : List (Option Grants)) (k : Option Grants) → k ≡ get_or items slot None → items ≡ ks → k ≡ option_map grants_of (get_or (relays_in es ks) slot None)
+kept_is es ks beside slot items k is same = is ∙ (ap (λ (z : List (Option Grants)). get_or z slot None) same ∙ grants_at es ks beside slot)
+
+-- the family of a slot's entry is that of its relayed address
+pub family_is : (es : List (Option Entry)) (ks : List (Option Grants)) (slot : ℕ) (entries : List (Option Entry)) (family : ℕ) → family ≡ option_map_or (λ e. e.key.family) (get_or entries slot None) 0 → entries ≡ es
+    → (r : Relay) → get_or (relays_in es ks) slot None ≡ Some r → family ≡ r.family
+family_is es ks slot entries family is same r at =
+    let it = relay_from es ks slot r at in
+    is ∙ (ap (λ (z : List (Option Entry)). option_map_or (λ e. e.key.family) (get_or z slot None) 0) same
+    ∙ (ap (λ (z : Option Entry). option_map_or (λ e. e.key.family) z 0) it.entry ∙ ap (λ (z : Relay). z.family) it.relay))

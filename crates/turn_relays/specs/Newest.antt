@@ -1,5 +1,5 @@
 -- What is in slots, as a list: the greatest number first, which is the newest.
-use Rattle.std.specs.Prelude.{ℕ, Bool, List, [], ◌∷◌, Option, None, Some, nat_lt, if◌then◌else◌}
+use Rattle.std.specs.Prelude.{ℕ, List, [], ◌∷◌, Option, None, Some, nat_lt, if◌then◌else◌}
 
 -- before the first whose number isn't greater
 abbrev pub put : {X : Type 0} → (X → ℕ) → X → List X → List X

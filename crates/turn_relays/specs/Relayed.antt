@@ -1,5 +1,5 @@
 -- What is in the slots: relayed addresses, as the machine has them.
-use Rattle.std.specs.Prelude.{◌≡◌, ◌⊎◌, ℕ, ◌+◌, ◌*◌, ◌<◌, ◌≤◌, List, [], ◌∷◌, Bool, Option, None, Some, is_some, length, slice_index_or, slice_set}
+use Rattle.std.specs.Prelude.{◌≡◌, ◌⊎◌, ℕ, ◌+◌, ◌<◌, ◌≤◌, List, [], ◌∷◌, Option, None, Some, length, slice_index_or, slice_set}
 use Rattle.stun_endpoints.specs.declared.endpoints.Endpoint.{Endpoint}
 use Rattle.turn_slots.specs.declared.relay_key.RelayKey.{RelayKey}
 use Rattle.turn_slots.specs.declared.slots.Entry.{Entry}
@@ -24,6 +24,14 @@ new_grants opened_by address = record {
   address = address;
   permissions = [];
   channels = [];
+}
+
+abbrev pub grants_of : Relay → Grants
+grants_of r = record {
+  opened_by = r.opened_by;
+  address = r.address;
+  permissions = r.permissions;
+  channels = r.channels;
 }
 
 abbrev pub relay_of : Entry → Grants → Relay

@@ -4,9 +4,9 @@ ghost use Rattle.std.specs.Prelude.{◌≡◌, ◌+◌, ◌<◌, ◌≤◌, ◌^
 ghost use Rattle.turn_machine.specs.Relays.{seconds};
 ghost use Rattle.turn_machine.specs.Rows.{with_channel, is_other_channel};
 
+use arrayvec::ArrayVec;
 use stun_endpoints::Endpoint;
 use turn_machine::Channel;
-use arrayvec::ArrayVec;
 
 /// How long a channel lasts, in nanoseconds.
 const LASTING: u128 = 600_000_000_000;

@@ -109,7 +109,8 @@ impl<const P: usize, const C: usize> Kept<P, C> {
     {
         self.channels.iter().any(|c| {
             now < c.until
-                && (c.number == number && !(c.peer == peer) || c.peer == peer && !(c.number == number))
+                && (c.number == number && !(c.peer == peer)
+                    || c.peer == peer && !(c.number == number))
         })
     }
 

@@ -3,6 +3,7 @@
 #![tactic(auto)]
 
 mod binding;
+mod granting;
 mod kept;
 mod permitting;
 mod relays;

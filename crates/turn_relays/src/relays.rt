@@ -16,10 +16,10 @@ use turn_slots::{Entry, RelayKey, Slots, UserId};
 /// The relayed addresses of a server, each with up to `P` permissions and `C` channels.
 #[derive(Drop)]
 pub struct Relays<const P: usize, const C: usize> {
-    clock: u128,
+    pub(crate) clock: u128,
     next: u64,
-    slots: Slots,
-    kept: Vec<Option<Kept<P, C>>>,
+    pub(crate) slots: Slots,
+    pub(crate) kept: Vec<Option<Kept<P, C>>>,
 }
 
 impl<const P: usize, const C: usize> Model for Relays<P, C> {

@@ -1,8 +1,7 @@
-use Rattle.std.proofs.Common.{◌≡◌, ℕ, ◌-◌, ◌<◌, List, ◌∷◌, filter, drop, length, get_or, sym, ap, subst, ◌∙◌, eq-eqb, arith}
+use Rattle.std.proofs.Common.{◌-◌, ◌<◌, List, filter, drop, length, get_or, subst, eq-eqb}
 use Rattle.std.specs.Prelude.{◌==◌}
-use Rattle.stun_endpoints.specs.declared.endpoints.Endpoint.{Endpoint}
 use Rattle.turn_machine.specs.declared.grants.Permission.{Permission}
-use Rattle.turn_machine.specs.Rows.{with_permission, with_permissions}
+use Rattle.turn_machine.specs.Rows.{with_permission}
 use Rattle.turn_relays.proofs.DistinctLemmas.{drop_passes, full_stays}
 use Rattle.turn_relays.proofs.permitting.put_all.Goals as goal
 

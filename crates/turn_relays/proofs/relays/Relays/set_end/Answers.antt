@@ -3,7 +3,7 @@ use Rattle.std.specs.Prelude.{MatchOption}
 use Rattle.turn_slots.specs.declared.slots.Entry.{Entry}
 use Rattle.turn_slots.specs.Slots.{State}
 use Rattle.turn_machine.specs.Relays.{Relay}
-use Rattle.turn_relays.specs.Relayed.{Grants, relay_of, relays_in}
+use Rattle.turn_relays.specs.Relayed.{relays_in}
 use Rattle.turn_relays.specs.Tables.{IsTable}
 use Rattle.turn_relays.proofs.SlotsLemmas.{relay_there, relay_missing, relays_changed, changed_table, none_or_some, is_there}
 use Rattle.turn_relays.proofs.relays.Relays.set_end.Goals as goal
@@ -16,14 +16,19 @@ Sets result slot until old new o =
 
 pub invariant_of-self : goal.invariant_of-self
 invariant_of-self g c =
-    record { table = (elim (none_or_some (get_or c.self.inside.slots.entries c.args.slot None)) [
-      | inl free ↦
-          let same = (subst (Sets c.set_deadline.result c.args.slot c.args.until c.self.inside.slots c.set_deadline.new.self) free c.set_deadline.ensures).1 in
-          subst (λ (z : State). IsTable c.self.inside.next z c.self.inside.kept.items) (sym same) c.self.invariant.table
-      | inr it ↦
-          let new = (subst (Sets c.set_deadline.result c.args.slot c.args.until c.self.inside.slots c.set_deadline.new.self) it.1 c.set_deadline.ensures).1 in
-          changed_table c.self.inside.next c.self.inside.slots c.self.inside.kept.items c.self.invariant.table c.args.slot it.0 (record it.0 { deadline = c.args.until }) it.1 refl refl c.set_deadline.new.self new
-    ]); early = c.self.invariant.early; permissions = c.self.invariant.permissions; channels = c.self.invariant.channels }
+    record {
+      table = (elim (none_or_some (get_or c.self.inside.slots.entries c.args.slot None)) [
+        | inl free ↦
+            let same = (subst (Sets c.set_deadline.result c.args.slot c.args.until c.self.inside.slots c.set_deadline.new.self) free c.set_deadline.ensures).1 in
+            subst (λ (z : State). IsTable c.self.inside.next z c.self.inside.kept.items) (sym same) c.self.invariant.table
+        | inr it ↦
+            let new = (subst (Sets c.set_deadline.result c.args.slot c.args.until c.self.inside.slots c.set_deadline.new.self) it.1 c.set_deadline.ensures).1 in
+            changed_table c.self.inside.next c.self.inside.slots c.self.inside.kept.items c.self.invariant.table c.args.slot it.0 (record it.0 { deadline = c.args.until }) it.1 refl refl c.set_deadline.new.self new
+      ]);
+      early = c.self.invariant.early;
+      permissions = c.self.invariant.permissions;
+      channels = c.self.invariant.channels;
+    }
 
 pub returns : goal.returns
 returns g c =
@@ -55,5 +60,5 @@ returns g c =
             secret = c.self.inside.slots.secret;
             slots = rs;
           }) (relays_changed c.self.inside.slots.entries c.self.inside.kept.items c.args.slot (record it.0 { deadline = c.args.until }) there.0
-              (is_there c.self.inside.slots.entries c.args.slot it.0 it.1) there.1)))
+          (is_there c.self.inside.slots.entries c.args.slot it.0 it.1) there.1)))
     ]

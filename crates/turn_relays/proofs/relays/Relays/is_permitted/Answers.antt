@@ -1,0 +1,14 @@
+use Rattle.std.proofs.Common.{false, None, Some, get_or, refl, ◌∙◌}
+use Rattle.std.specs.List.{list_any}
+use Rattle.turn_machine.specs.Relays.{is_permitted, is_permission}
+use Rattle.turn_relays.specs.Relayed.{relays_in}
+use Rattle.turn_relays.proofs.SlotsLemmas.{asked_of, kept_is}
+use Rattle.turn_relays.proofs.relays.Relays.is_permitted.Goals as goal
+
+pub returns-in-Some : goal.returns-in-Some
+returns-in-Some g c =
+    rw (← c.self.view_is) (c.is_permitted.ensures ∙ asked_of (is_permitted c.self.inside.clock c.args.ip) (λ x. list_any (is_permission c.self.inside.clock c.args.ip) x.permissions) false (get_or (relays_in c.self.inside.slots.entries c.self.inside.kept.items) c.args.slot None) (λ r at. refl) (Some c.in-Some.kept.now) (kept_is c.self.inside.slots.entries c.self.inside.kept.items c.self.invariant.table.beside c.args.slot c.deref.result.now (Some c.in-Some.kept.now) c.in-Some.ensures c.deref.ensures.value))
+
+pub returns-in-None : goal.returns-in-None
+returns-in-None g c =
+    rw (← c.self.view_is) (asked_of (is_permitted c.self.inside.clock c.args.ip) (λ x. list_any (is_permission c.self.inside.clock c.args.ip) x.permissions) false (get_or (relays_in c.self.inside.slots.entries c.self.inside.kept.items) c.args.slot None) (λ r at. refl) None (kept_is c.self.inside.slots.entries c.self.inside.kept.items c.self.invariant.table.beside c.args.slot c.deref.result.now None c.in-None.ensures c.deref.ensures.value))
