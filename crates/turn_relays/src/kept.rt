@@ -1,18 +1,20 @@
-//! What is kept of a relayed address beside its slot.
+//! What is kept of a relayed address besides its entry in the slots.
 
 use arrayvec::ArrayVec;
 use std::marker::Model;
 use stun_endpoints::Endpoint;
 use turn_machine::{Channel, Permission};
 
-/// What is kept of a relayed address beside its slot, with its permissions and channels inline.
+/// What is kept of a relayed address besides its entry in the slots. Permissions and channels are inline.
 #[derive(Drop)]
 pub(crate) struct Kept<const P: usize, const C: usize> {
     /// The transaction ID of the request that opened it.
     pub(crate) opened_by: u128,
     /// The relayed transport address.
     pub(crate) address: Endpoint,
+    /// Who may send to it.
     pub(crate) permissions: ArrayVec<Permission, P>,
+    /// The peers with channel numbers.
     pub(crate) channels: ArrayVec<Channel, C>,
 }
 
@@ -33,7 +35,7 @@ impl<const P: usize, const C: usize> Kept<P, C> {
     ghost use Rattle.std.specs.Prelude.{◌≡◌};
     ghost use Rattle.turn_relays.specs.Relayed.{new_grants};
 
-    /// With no permissions and no channels.
+    /// Makes one with no permissions and no channels.
     pub(crate) fn new(opened_by: u128, address: Endpoint) -> Self
         ensures { result ≡ new_grants opened_by address }
     {

@@ -1,4 +1,4 @@
-use Rattle.std.proofs.Common.{◌≡◌, List, Option, None, replicate, sym, ap, ◌∙◌}
+use Rattle.std.proofs.Common.{List, Option, None, replicate, ap, ◌∙◌}
 use Rattle.turn_slots.specs.Slots.{State}
 use Rattle.turn_slots.specs.Hashes.{secret_of}
 use Rattle.turn_machine.specs.Relays.{Relay}

@@ -3,7 +3,7 @@ use Rattle.std.specs.Prelude.{MatchOption}
 use Rattle.turn_slots.specs.declared.slots.Entry.{Entry}
 use Rattle.turn_slots.specs.Slots.{State}
 use Rattle.turn_machine.specs.Relays.{Relay}
-use Rattle.turn_relays.specs.Relayed.{Grants, relay_of, relays_in}
+use Rattle.turn_relays.specs.Relayed.{relays_in}
 use Rattle.turn_relays.specs.Tables.{IsTable}
 use Rattle.turn_relays.proofs.SlotsLemmas.{relay_there, relay_missing, relays_changed, changed_table, none_or_some, is_there}
 use Rattle.turn_relays.proofs.relays.Relays.set_end.Goals as goal
@@ -55,5 +55,5 @@ returns g c =
             secret = c.self.inside.slots.secret;
             slots = rs;
           }) (relays_changed c.self.inside.slots.entries c.self.inside.kept.items c.args.slot (record it.0 { deadline = c.args.until }) there.0
-              (is_there c.self.inside.slots.entries c.args.slot it.0 it.1) there.1)))
+          (is_there c.self.inside.slots.entries c.args.slot it.0 it.1) there.1)))
     ]
