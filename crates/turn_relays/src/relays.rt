@@ -20,14 +20,15 @@ use turn_slots::{Entry, RelayKey, Slots, UserId};
 /// below the capacity, which stays the same until the relayed address ends. Each has a number too, for its
 /// socket, which is above the numbers of all opened before.
 ///
-/// The clock is the latest moment passed to [`Relays::advance`], in units of the caller's choice. A relayed
-/// address has expired if its end is not after the clock. It is still found and counted until
-/// [`Relays::end_due`] ends it: call that until it returns `None` whenever the clock has advanced.
+/// Moments are nanoseconds from a beginning of the caller's choice, and the clock is the latest moment
+/// passed to [`Relays::advance`]. A relayed address has expired if its end is not after the clock. It is
+/// still found and counted until [`Relays::end_due`] ends it: call that until it returns `None` whenever the
+/// clock has advanced.
 ///
 /// [`Relays::new`] takes all memory; no other call allocates. The cost of a call doesn't depend on how many
-/// relayed addresses there are: a look-up by client or user hashes it, and walks over one bucket of a hash
-/// table, which without the seed nobody can fill at will; an opening, an end, and another end for a relayed
-/// address take up to log2 of the capacity steps.
+/// relayed addresses there are. A look-up by client or user hashes it, and walks over one bucket of a hash
+/// table, which without the seed nobody can fill at will. To set when a relayed address ends, as an opening
+/// and an end do too, takes up to log2 of the capacity steps.
 ///
 /// ```
 /// use stun_endpoints::Endpoint;
@@ -38,15 +39,16 @@ use turn_slots::{Entry, RelayKey, Slots, UserId};
 /// let key = RelayKey { family: 1, ..RelayKey::default() };
 /// let user = UserId::from([1; 32]);
 /// let address = Endpoint { port: 49_152, ..Endpoint::default() };
-/// let number = relays.open(key, user, 7, address, 600);
+/// let minute = 60_000_000_000;
+/// let number = relays.open(key, user, 7, address, 10 * minute);
 /// assert!(rt; number.is_some());
 /// assert_eq!(rt; relays.count_by_user(user), 1);
 ///
 /// let slot = relays.find_by_key(&key).unwrap_or(0);
-/// relays.set_end(slot, 900);
-/// relays.advance(899);
+/// relays.set_end(slot, 15 * minute);
+/// relays.advance(15 * minute - 1);
 /// assert_eq!(rt; relays.end_due(), None);
-/// relays.advance(900);
+/// relays.advance(15 * minute);
 /// assert_eq!(rt; relays.end_due(), number);
 /// assert_eq!(rt; relays.len(), 0);
 /// ```
@@ -56,7 +58,7 @@ pub struct Relays<const P: usize, const C: usize> {
     /// Above the numbers of all relayed addresses that were opened.
     next: u64,
     slots: Slots,
-    /// What is kept besides of the relayed address in each slot.
+    /// What is kept of the relayed address in each slot besides its entry.
     kept: Vec<Option<Kept<P, C>>>,
 }
 

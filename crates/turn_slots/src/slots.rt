@@ -49,8 +49,8 @@ pub struct Entry {
 ///
 /// [`Slots::new`] takes all memory; no other call allocates. The cost of a call doesn't depend on how many
 /// relayed addresses there are. A look-up by key or user hashes it, and walks over one bucket of a hash
-/// table, which without the seed nobody can fill at will. What sets a deadline, an opening and an end
-/// among it, takes up to log2 of the capacity steps for that.
+/// table, which without the seed nobody can fill at will. To set a deadline, as an opening and an end do
+/// too, takes up to log2 of the capacity steps.
 ///
 /// ```
 /// use turn_slots::{RelayKey, Slots, UserId};
@@ -121,7 +121,7 @@ fn place_of(users: &mut Keys<UserId>, user: UserId) -> usize
 impl Slots {
     /// Makes slots that are all free. `seed` keys the hashes of clients and users: pass random numbers.
     ///
-    /// It takes all memory that the slots ever need, 440 bytes for each.
+    /// It takes all memory that the slots ever need, 504 bytes for each.
     ///
     /// # Requires
     ///
