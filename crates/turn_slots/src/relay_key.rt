@@ -10,7 +10,7 @@ use std::hash::{Hash, Hasher};
 use stun_endpoints::FiveTuple;
 
 /// A client and an address family. They identify a relayed address, since an allocation has at most one of
-/// each family (RFC 8656, section 6).
+/// each family (RFC 8656, section 5).
 #[derive(Clone, Copy, Debug, Default, PartialEq, Eq)]
 pub struct RelayKey {
     /// The client.
