@@ -42,7 +42,10 @@ use turn_slots::{Entry, RelayKey, Slots, UserId};
 /// let minute = 60_000_000_000;
 /// let number = relays.open(key, user, 7, address, 10 * minute);
 /// assert!(rt; number.is_some());
+/// assert_eq!(rt; (relays.clock(), relays.len()), (0, 1));
 /// assert_eq!(rt; relays.count_by_user(user), 1);
+/// assert_eq!(rt; relays.count_by_user(UserId::default()), 0);
+/// assert_eq!(rt; relays.find_by_key(&RelayKey { family: 2, ..key }), None);
 ///
 /// let slot = relays.find_by_key(&key).unwrap_or(0);
 /// relays.set_end(slot, 15 * minute);
@@ -115,8 +118,8 @@ impl<const P: usize, const C: usize> Relays<P, C> {
     /// Makes a table with no relayed address and the clock at 0. `capacity` is the most relayed addresses
     /// at a time, and `seed` keys the hashes of clients and users: pass random numbers.
     ///
-    /// It takes all memory that the table ever needs, for each slot MEMORY bytes, 64 for a permission
-    /// and 64 for a channel.
+    /// It takes all memory that the table ever needs: for each slot 616 bytes, and 48 for each of `P`
+    /// permissions and 80 for each of `C` channels, whether they are used or not.
     ///
     /// # Requires
     ///
@@ -189,6 +192,22 @@ impl<const P: usize, const C: usize> Relays<P, C> {
     }
 
     /// Returns the slot of the relayed address with a number, or `None` if no relayed address has it.
+    ///
+    /// ```
+    /// use stun_endpoints::Endpoint;
+    /// use turn_relays::Relays;
+    /// use turn_slots::{RelayKey, UserId};
+    ///
+    /// let mut relays = Relays::<16, 8>::new(alloc, 1, [1, 2])?;
+    /// let (key, user, address) = (RelayKey::default(), UserId::default(), Endpoint::default());
+    /// let first = relays.open(key, user, 7, address, 600).unwrap_or(0);
+    /// assert_eq!(rt; relays.find_by_number(first), Some(0));
+    /// assert_eq!(rt; relays.end(0), Some(first));
+    /// let second = relays.open(key, user, 8, address, 600).unwrap_or(0);
+    /// assert!(rt; first < second);
+    /// assert_eq!(rt; relays.find_by_number(first), None);
+    /// assert_eq!(rt; relays.end(0), Some(second));
+    /// ```
     pub fn find_by_number(&self, number: u64) -> Option<usize>
         ensures some { IfSome result (λ slot. (r : Relay) × Holds self.now slot r
             × (is_at number r ≡ true)) }
@@ -257,6 +276,20 @@ impl<const P: usize, const C: usize> Relays<P, C> {
     /// # Requires
     ///
     /// `until` is below `u128::MAX`.
+    ///
+    /// ```
+    /// use stun_endpoints::Endpoint;
+    /// use turn_relays::Relays;
+    /// use turn_slots::{RelayKey, UserId};
+    ///
+    /// let mut relays = Relays::<16, 8>::new(alloc, 1, [1, 2])?;
+    /// let (key, user, address) = (RelayKey::default(), UserId::default(), Endpoint::default());
+    /// let number = relays.open(key, user, 7, address, 600);
+    /// relays.advance(500);
+    /// assert_eq!(rt; relays.end_due(), None);
+    /// relays.set_end(0, 400);
+    /// assert_eq!(rt; relays.end_due(), number);
+    /// ```
     pub fn set_end(&mut self, slot: usize, until: u128)
         requires { until < never }
         ensures { MatchOption (at_slot self.old slot) (self.new ≡ self.old)
