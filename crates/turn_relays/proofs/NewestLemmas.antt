@@ -1,4 +1,4 @@
--- What is in slots, the newest first: the list changes as its slots do.
+-- The items in slots, the newest first: the list changes as its slots do.
 use Rattle.std.proofs.Common.{◌≡◌, ℕ, ◌+◌, ◌<◌, ◌≤◌, zero, suc, Bool, true, false, cond, List, [], ◌∷◌, map, filter, find, length, Option, None, Some, get_or, set, refl, sym, ap, ◌∙◌, subst, ltb-true, ltb-false, arith}
 use Rattle.std.specs.List.{AllByRecursion}
 use Rattle.std.specs.Option.{option_map}
@@ -7,7 +7,7 @@ use Rattle.std.proofs.lemmas.Bool.{cond_both, cond-true, cond-false, lt-ltb, le-
 use Rattle.std.proofs.lemmas.List.Sums.{sum_by-cons}
 use Rattle.turn_relays.specs.Newest.{put, newest_first}
 
--- ---- What holds of each
+-- ---- Facts about each
 
 pub each_map : {X : Type 0} (P Q : X → Type 0) → ((x : X) → P x → Q x) → (xs : List X) → AllByRecursion P xs → AllByRecursion Q xs
 each_map P Q f [] each = tt
@@ -68,7 +68,7 @@ each_kept P test (x ∷ xs) each =
     let more = each_kept P test xs each.1 in
     cond_both (test x) (x ∷ filter test xs) (filter test xs) (AllByRecursion P) (λ _. (each.0, more)) (λ _. more)
 
--- y is in front of both
+-- y precedes both lists
 behind : {X : Type 0} (number : X → ℕ) (x y : X) (zs : List X) (kept : Bool) → nat_lt (number x) (number y) ≡ true → y ∷ cond kept (put number x zs) zs ≡ cond kept (put number x (y ∷ zs)) (y ∷ zs)
 behind number x y zs true less = sym (cond-true (nat_lt (number x) (number y)) (y ∷ put number x zs) (x ∷ y ∷ zs) less)
 behind number x y zs false less = refl
@@ -124,7 +124,7 @@ newest_map number f same (Some x ∷ slots) =
 
 -- ---- Opened
 
--- a free slot gets what has a greater number than all
+-- an item whose number is above all, in a free slot, is the first of the list
 pub newest_opened : {X : Type 0} (number : X → ℕ) (r : X) (slots : List (Option X)) (i : ℕ) → EachSlot (λ a. number a < number r) slots → i < length slots → get_or slots i None ≡ None → newest_first number (set slots i (Some r)) ≡ r ∷ newest_first number slots
 newest_opened number r [] i each lt free = absurd (omega (arith, lt))
 newest_opened number r (None ∷ slots) zero each lt free =
@@ -135,7 +135,7 @@ newest_opened number r (Some a ∷ slots) (suc i) each lt free =
     ap (put number a) (newest_opened number r slots i each.1 (omega (arith, lt)) free)
     ∙ cond-true (nat_lt (number a) (number r)) (r ∷ put number a (newest_first number slots)) (a ∷ r ∷ newest_first number slots) (lt-ltb (number a) (number r) each.0)
 
--- ---- What is in the slots
+-- ---- A fact about each item
 
 pub each_slot : {X : Type 0} (P : X → Type 0) (slots : List (Option X)) → ((i : ℕ) (a : X) → get_or slots i None ≡ Some a → P a) → EachSlot P slots
 each_slot P [] each = tt
@@ -165,7 +165,7 @@ find_put_this number test x (y ∷ ys) is_so each =
     (λ _. cond-false (test y) (Some y) (find test (put number x ys)) each.0 ∙ find_put_this number test x ys is_so each.1)
     (λ _. cond-true (test x) (Some x) (find test (y ∷ ys)) is_so)
 
--- the one that passes is found
+-- the only item that passes is found
 pub newest_found : {X : Type 0} (number : X → ℕ) (test : X → Bool) (slots : List (Option X)) (i : ℕ) (r : X) → get_or slots i None ≡ Some r → test r ≡ true
     → ((j : ℕ) (a : X) → get_or slots j None ≡ Some a → test a ≡ true → j ≡ i) → find test (newest_first number slots) ≡ Some r
 newest_found number test [] i r at is_so only = absurd cc
@@ -219,7 +219,7 @@ set_same f [] none same = refl
 set_same f (None ∷ slots) none same = λ i. none i ∷ set_same f slots none (λ j a at. same (suc j) a at) i
 set_same f (Some x ∷ slots) none same = λ i. same 0 x refl i ∷ set_same f slots none (λ j a at. same (suc j) a at) i
 
--- as if each slot were, if the others stay
+-- as each slot would be by a change that leaves the others
 pub set_one : {X : Type 0} (f : Option X → Option X) (slots : List (Option X)) (i : ℕ) (r : X) → f None ≡ None → get_or slots i None ≡ Some r
     → ((j : ℕ) (a : X) → (j ≡ i → ⊥) → get_or slots j None ≡ Some a → f (Some a) ≡ Some a) → set slots i (f (Some r)) ≡ map f slots
 set_one f [] i r none at same = absurd cc

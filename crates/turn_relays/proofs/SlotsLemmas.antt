@@ -1,4 +1,4 @@
--- Relayed addresses, of the slots and of what is kept beside them.
+-- Relayed addresses: the entries of the slots with what is kept besides.
 use Rattle.std.proofs.Common.{◌≡◌, ℕ, ◌+◌, ◌*◌, ◌<◌, ◌^◌, zero, suc, Bool, true, false, cond, List, [], ◌∷◌, length, Option, None, Some, get_or, set, replicate, refl, sym, ap, ◌∙◌, subst, eq-eqb, eqb-true, ne_eqb, arith, inl, inr}
 use Rattle.std.specs.Prelude.{◌⊎◌, ◌==◌, ◌&&◌, is_some, count_by}
 use Rattle.std.specs.Option.{IfSome, IfNone, option_map, option_map_or}
@@ -19,7 +19,7 @@ use Rattle.turn_relays.specs.Newest.{newest_first}
 use Rattle.turn_relays.proofs.NewestLemmas.{passes, newest_count, newest_length}
 use Rattle.turn_relays.specs.Relayed.{Grants, grants_of, relay_of, joined, relays_in, number_of}
 
--- ---- A slot, and what is kept beside it
+-- ---- A slot
 
 pub relay_at : (es : List (Option Entry)) (ks : List (Option Grants)) (i : ℕ) → get_or (relays_in es ks) i None ≡ joined (get_or es i None) (get_or ks i None)
 relay_at [] ks i = refl
@@ -51,7 +51,7 @@ kept_beside e o k beside is = some_of k (sym beside ∙ ap is_some is)
 joined_is : (e : Entry) (g : Grants) (o : Option Entry) (k : Option Grants) → o ≡ Some e → k ≡ Some g → joined o k ≡ Some (relay_of e g)
 joined_is e g o k is too = ap (λ (z : Option Entry). joined z k) is ∙ ap (λ (z : Option Grants). joined (Some e) z) too
 
--- a slot with an allocation has a relayed address
+-- a slot with an entry has a relayed address
 pub relay_there : (es : List (Option Entry)) (ks : List (Option Grants)) → ((i : ℕ) → is_some (get_or es i None) ≡ is_some (get_or ks i None))
     → (i : ℕ) (e : Entry) → get_or es i None ≡ Some e → (g : Grants) × (get_or ks i None ≡ Some g) × (get_or (relays_in es ks) i None ≡ Some (relay_of e g))
 relay_there es ks beside i e at =
@@ -73,7 +73,7 @@ joined_from None k r is = absurd cc
 joined_from (Some e) None r is = absurd cc
 joined_from (Some e) (Some g) r is = record { e = e; g = g; entry = refl; kept = refl; relay = some_is (relay_of e g) r is }
 
--- and a relayed address is of one
+-- and a relayed address is that of an entry
 pub relay_from : (es : List (Option Entry)) (ks : List (Option Grants)) (i : ℕ) (r : Relay) → get_or (relays_in es ks) i None ≡ Some r → From (get_or es i None) (get_or ks i None) r
 relay_from es ks i r at = joined_from (get_or es i None) (get_or ks i None) r (sym (relay_at es ks i) ∙ at)
 
@@ -109,7 +109,7 @@ for_user user other low also =
 count_cons : {X : Type 0} (p : X → Bool) (x : X) (xs : List X) → count_by p (x ∷ xs) ≡ cond (p x) 1 0 + count_by p xs
 count_cons p x xs = sum_by-cons (λ y. cond (p y) 1 0) x xs
 
--- a test of relayed addresses that is one of their slots
+-- a test of relayed addresses that is one of entries
 module _ (p : Option Relay → Bool) (q : Option Entry → Bool) (B : Entry → Type 0)
     (none : p None ≡ q None) (same : (e : Entry) (g : Grants) → B e → p (Some (relay_of e g)) ≡ q (Some e)) where
   of_one : (o : Option Entry) (k : Option Grants) → is_some o ≡ is_some k → ((e : Entry) → o ≡ Some e → B e) → p (joined o k) ≡ q o
@@ -147,7 +147,7 @@ relays_length es ks beside =
     newest_length number_of (relays_in es ks)
     ∙ of_slots is_some is_live (λ e. Unit {0}) refl (λ e g also. refl) es ks beside (λ i e at. tt)
 
--- ---- What is found
+-- ---- Look-ups
 
 if_some : {X : Type 0} (o : Option X) (P Q : X → Type 0) → ((x : X) → P x → Q x) → IfSome o P → IfSome o Q
 if_some None P Q f is = is
@@ -201,7 +201,7 @@ module _ (number : ℕ) (es : List (Option Entry)) (ks : List (Option Grants)) w
   number_only found only slot r at is = let it = relay_from es ks slot r at in
       only slot it.e it.entry (eqb-true it.e.number number (subst (λ (x : Relay). is_at number x ≡ true) (sym it.relay) is))
 
--- ---- New, and ended
+-- ---- A new table, and an end
 
 pub relays_none : (n : ℕ) → relays_in (replicate n None) (replicate n None) ≡ replicate n None
 relays_none zero = refl
@@ -232,7 +232,7 @@ set_none [] i is = refl
 set_none (x ∷ xs) zero is = ap (λ y. y ∷ xs) (sym is)
 set_none (x ∷ xs) (suc i) is = ap (λ (ys : List (Option _)). x ∷ ys) (set_none xs i is)
 
--- an element of a list with one that was set is that one, or was there
+-- an element after a set is the new one, or was there before
 pub set_from : {X : Type 0} (xs : List (Option X)) (i : ℕ) (o : Option X) (j : ℕ) (x : X) → get_or (set xs i o) j None ≡ Some x → (o ≡ Some x) ⊎ (get_or xs j None ≡ Some x)
 set_from [] i o j x at = inr at
 set_from (y ∷ xs) zero o zero x at = inl at
@@ -266,13 +266,13 @@ ended_table next s ks t slot s2 is = subst (λ (z : State). IsTable next z (set 
   ];
 })
 
--- a slot that is free has no relayed address
+-- a free slot has no relayed address
 pub relay_missing : (es : List (Option Entry)) (ks : List (Option Grants)) (i : ℕ) → get_or es i None ≡ None → get_or (relays_in es ks) i None ≡ None
 relay_missing es ks i is = relay_at es ks i ∙ ap (λ (o : Option Entry). joined o (get_or ks i None)) is
 
 -- ---- Another end
 
--- the same slots have an allocation
+-- the same slots have an entry
 some_kept : (xs : List (Option Entry)) (slot : ℕ) (e f : Entry) → get_or xs slot None ≡ Some e → (i : ℕ) → is_some (get_or (set xs slot (Some f)) i None) ≡ is_some (get_or xs i None)
 some_kept [] slot e f at i = absurd cc
 some_kept (x ∷ xs) zero e f at zero = sym (ap is_some at)
@@ -280,7 +280,7 @@ some_kept (x ∷ xs) zero e f at (suc i) = refl
 some_kept (x ∷ xs) (suc slot) e f at zero = refl
 some_kept (x ∷ xs) (suc slot) e f at (suc i) = some_kept xs slot e f at i
 
--- an entry that is changed, but not its number and its user
+-- an entry changes, but for its number and its user
 pub changed_table : (next : ℕ) (s : State) (ks : List (Option Grants)) → IsTable next s ks → (slot : ℕ) (e f : Entry) → get_or s.entries slot None ≡ Some e
     → f.number ≡ e.number → f.user ≡ e.user → (s2 : State) → s2 ≡ record s { entries = set s.entries slot (Some f) } → IsTable next s2 ks
 changed_table next s ks t slot e f at number user s2 is = subst (λ (z : State). IsTable next z ks) (sym is) (record {
@@ -314,7 +314,7 @@ pub none_or_some : {X : Type 0} (o : Option X) → (o ≡ None) ⊎ ((x : X) × 
 none_or_some None = inl refl
 none_or_some (Some x) = inr (x, refl)
 
--- ---- Opened
+-- ---- An opening
 
 pub opened_table : (next : ℕ) (s : State) (ks : List (Option Grants)) → IsTable next s ks → (slot : ℕ) (e : Entry) (g : Grants) → slot < length s.entries
     → e.number ≡ s.round * places + slot → e.user.low < 2 ^ 128 → (s2 : State) → s2 ≡ record s { entries = set s.entries slot (Some e); round = s.round + 1 }

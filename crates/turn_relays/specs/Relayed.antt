@@ -1,4 +1,4 @@
--- What is in the slots: relayed addresses, as the machine has them.
+-- The relayed addresses in slots, and the state of the machine that they are (RFC 8656, sections 6, 9 and 12).
 use Rattle.std.specs.Prelude.{◌≡◌, ◌⊎◌, ℕ, ◌+◌, ◌<◌, ◌≤◌, List, [], ◌∷◌, Option, None, Some, length, slice_index_or, slice_set}
 use Rattle.stun_endpoints.specs.declared.endpoints.Endpoint.{Endpoint}
 use Rattle.turn_slots.specs.declared.relay_key.RelayKey.{RelayKey}
@@ -11,7 +11,7 @@ use Rattle.turn_machine.specs.declared.grants.Channel.{Channel}
 use Rattle.turn_machine.specs.Relays.{Relay, State}
 use Rattle.turn_relays.specs.Newest.{newest_first}
 
--- what is kept of a relayed address beside its slot
+-- what is kept of a relayed address besides its entry in the slots
 pub record Grants : Type 0 where
   pub opened_by : ℕ
   pub address : Endpoint
@@ -26,6 +26,7 @@ new_grants opened_by address = record {
   channels = [];
 }
 
+-- what a relayed address has besides
 abbrev pub grants_of : Relay → Grants
 grants_of r = record {
   opened_by = r.opened_by;
@@ -34,6 +35,7 @@ grants_of r = record {
   channels = r.channels;
 }
 
+-- the relayed address of an entry and of what is kept besides
 abbrev pub relay_of : Entry → Grants → Relay
 relay_of e g = record {
   tuple = e.key.tuple;
@@ -47,6 +49,7 @@ relay_of e g = record {
   channels = g.channels;
 }
 
+-- a slot has a relayed address if it has both
 abbrev pub joined : Option Entry → Option Grants → Option Relay
 joined None grants = None
 joined (Some e) None = None
@@ -57,8 +60,8 @@ relays_in [] kept = []
 relays_in (e ∷ es) [] = None ∷ relays_in es []
 relays_in (e ∷ es) (k ∷ kept) = joined e k ∷ relays_in es kept
 
--- the clock; the least number for the next socket; how many were opened; the key of the hashes; and
--- the relayed address of each slot
+-- the clock; a lower bound of the next number; how many were opened; the key of the hashes; and the
+-- relayed address of each slot
 pub record Table : Type 0 where
   pub clock : ℕ
   pub next : ℕ
@@ -80,13 +83,15 @@ state_of t = record {
 abbrev pub at_slot : Table → (slot : ℕ) → Option Relay
 at_slot t slot = slice_index_or t.slots slot None
 
+-- this slot has this relayed address
 abbrev pub Holds : Table → (slot : ℕ) → Relay → Type 0
 Holds t slot r = at_slot t slot ≡ Some r
 
+-- this is so of each relayed address
 abbrev pub Each : Table → (Relay → Type 0) → Type 0
 Each t P = (slot : ℕ) (r : Relay) → Holds t slot r → P r
 
--- a slot is set, and nothing else changes
+-- a slot gets a relayed address, or none, and nothing else changes
 abbrev pub with_slot : (slot : ℕ) → Option Relay → Table → Table
 with_slot slot r t = record t { slots = slice_set t.slots slot r }
 
@@ -94,6 +99,7 @@ with_slot slot r t = record t { slots = slice_set t.slots slot r }
 abbrev pub IsClosed : Table → Type 0
 IsClosed t = ((slot : ℕ) → slot < length t.slots → (r : Relay) × Holds t slot r) ⊎ (t.openings ≡ rounds)
 
+-- a relayed address when it is opened: with no permissions and no channels
 abbrev pub opened : RelayKey → (user opened_by : ℕ) → Endpoint → (until number : ℕ) → Relay
 opened key user opened_by address until number = record {
   tuple = key.tuple;
@@ -107,7 +113,7 @@ opened key user opened_by address until number = record {
   channels = [];
 }
 
--- a free slot gets the relayed address, whose number is above all before
+-- a free slot gets the relayed address, whose number is above those of all opened before
 pub record Opens (slot : ℕ) (r : Relay) (old new : Table) : Type 0 where
   pub within : slot < length old.slots
   pub free : at_slot old slot ≡ None

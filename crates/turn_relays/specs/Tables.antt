@@ -1,16 +1,16 @@
--- What the slots and what is kept beside them have to do with each other.
+-- The entries of the slots and what is kept besides agree.
 use Rattle.std.specs.Prelude.{◌≡◌, ℕ, ◌*◌, ◌<◌, ◌≤◌, ◌^◌, List, Option, None, Some, is_some, length, slice_index_or}
 use Rattle.turn_slots.specs.declared.slots.Entry.{Entry}
 use Rattle.turn_slots.specs.Slots.{State}
 use Rattle.turn_slots.specs.Numbers.{places}
 use Rattle.turn_relays.specs.Relayed.{Grants}
 
--- a user's number is of 256 bits
+-- the lower half of a user's number has 128 bits
 abbrev pub IsUser : Entry → Type 0
 IsUser e = e.user.low < 2 ^ 128
 
--- something is kept beside each slot that has an allocation, and nothing beside the others; and the
--- next number is above all
+-- a slot has something kept besides if and only if it has an entry; `next` is above all numbers, and at most the
+-- next number
 pub record IsTable (next : ℕ) (slots : State) (kept : List (Option Grants)) : Type 0 where
   pub few : length slots.entries < places
   pub size : length kept ≡ length slots.entries

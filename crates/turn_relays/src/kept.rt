@@ -1,4 +1,4 @@
-//! What is kept of a relayed address beside its slot.
+//! What is kept of a relayed address besides its entry in the slots.
 
 use crate::binding::{has_room, put};
 use crate::permitting::{copy_of, put_all};
@@ -7,14 +7,16 @@ use std::marker::Model;
 use stun_endpoints::{Endpoint, Ip};
 use turn_machine::{Channel, Permission};
 
-/// What is kept of a relayed address beside its slot, with its permissions and channels inline.
+/// What is kept of a relayed address besides its entry in the slots. Permissions and channels are inline.
 #[derive(Drop)]
 pub(crate) struct Kept<const P: usize, const C: usize> {
     /// The transaction ID of the request that opened it.
     pub(crate) opened_by: u128,
     /// The relayed transport address.
     pub(crate) address: Endpoint,
+    /// Who may send to it.
     pub(crate) permissions: ArrayVec<Permission, P>,
+    /// The peers with channel numbers.
     pub(crate) channels: ArrayVec<Channel, C>,
 }
 
@@ -46,7 +48,7 @@ impl<const P: usize, const C: usize> Kept<P, C> {
     ghost use Rattle.turn_machine.specs.Rows.{clashes, with_permissions, with_channel};
     ghost use Rattle.turn_relays.specs.Relayed.{new_grants};
 
-    /// With no permissions and no channels.
+    /// Makes one with no permissions and no channels.
     pub(crate) fn new(opened_by: u128, address: Endpoint) -> Self
         requires permissions { P ≤ 65_535 }
         requires channels { C ≤ 65_535 }

@@ -1,5 +1,10 @@
-//! The relayed addresses of a TURN server in memory: what is kept of each, found by client, number and
-//! user, at a cost that doesn't depend on how many there are.
+//! The relayed addresses of a TURN server in memory, with all that the server keeps of each (RFC 8656,
+//! sections 6, 9 and 12): whose it is, when it ends, its permissions and its channels.
+//!
+//! [`Relays`] has each in a slot of `turn_slots`, which finds it, and its permissions and channels beside
+//! that slot. The contracts say what that is in the terms of `turn_machine`: a list of relayed addresses,
+//! the newest first (`state_of` in `specs/Relayed.antt`). The caller decides who may open a relayed address,
+//! and for how long.
 #![tactic(auto)]
 
 mod binding;

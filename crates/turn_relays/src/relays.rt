@@ -13,12 +13,55 @@ use std::marker::Model;
 use stun_endpoints::Endpoint;
 use turn_slots::{Entry, RelayKey, Slots, UserId};
 
-/// The relayed addresses of a server, each with up to `P` permissions and `C` channels.
+/// The relayed addresses of a TURN server, each with up to `P` permissions and `C` channels (RFC 8656,
+/// sections 6, 9 and 12).
+///
+/// An allocation has one relayed address, or one for IPv4 and one for IPv6. Each is in a slot, an index
+/// below the capacity, which stays the same until the relayed address ends. Each has a number too, for its
+/// socket, which is above the numbers of all opened before.
+///
+/// Moments are nanoseconds from a beginning of the caller's choice, and the clock is the latest moment
+/// passed to [`Relays::advance`]. A relayed address has expired if its end is not after the clock. It is
+/// still found and counted until [`Relays::end_due`] ends it: call that until it returns `None` whenever the
+/// clock has advanced.
+///
+/// [`Relays::new`] takes all memory; no other call allocates. The cost of a call doesn't depend on how many
+/// relayed addresses there are. A look-up by client or user hashes it, and walks over one bucket of a hash
+/// table, which without the seed nobody can fill at will. To set when a relayed address ends, as an opening
+/// and an end do too, takes up to log2 of the capacity steps.
+///
+/// ```
+/// use stun_endpoints::Endpoint;
+/// use turn_relays::Relays;
+/// use turn_slots::{RelayKey, UserId};
+///
+/// let mut relays = Relays::<16, 8>::new(alloc, 100, [1, 2])?;
+/// let key = RelayKey { family: 1, ..RelayKey::default() };
+/// let user = UserId::from([1; 32]);
+/// let address = Endpoint { port: 49_152, ..Endpoint::default() };
+/// let minute = 60_000_000_000;
+/// let number = relays.open(key, user, 7, address, 10 * minute);
+/// assert!(rt; number.is_some());
+/// assert_eq!(rt; (relays.clock(), relays.len()), (0, 1));
+/// assert_eq!(rt; relays.count_by_user(user), 1);
+/// assert_eq!(rt; relays.count_by_user(UserId::default()), 0);
+/// assert_eq!(rt; relays.find_by_key(&RelayKey { family: 2, ..key }), None);
+///
+/// let slot = relays.find_by_key(&key).unwrap_or(0);
+/// relays.set_end(slot, 15 * minute);
+/// relays.advance(15 * minute - 1);
+/// assert_eq!(rt; relays.end_due(), None);
+/// relays.advance(15 * minute);
+/// assert_eq!(rt; relays.end_due(), number);
+/// assert_eq!(rt; relays.len(), 0);
+/// ```
 #[derive(Drop)]
 pub struct Relays<const P: usize, const C: usize> {
     pub(crate) clock: u128,
+    /// Above the numbers of all relayed addresses that were opened.
     next: u64,
     pub(crate) slots: Slots,
+    /// What is kept of the relayed address in each slot besides its entry.
     pub(crate) kept: Vec<Option<Kept<P, C>>>,
 }
 
@@ -50,7 +93,7 @@ fn are_halves(user: UserId)
     ensures { user.low < 2 ^ 128 }
 {}
 
-/// The number of the entry in a slot.
+/// Returns the number of the entry in a slot.
 fn number_in(entries: &[Option<Entry>], slot: usize) -> u64
     requires { slice_index_or entries.now slot None ≢ None }
     ensures { MatchOption (slice_index_or entries.now slot None) ⊥ (λ e. result ≡ e.number) }
@@ -61,7 +104,7 @@ fn number_in(entries: &[Option<Entry>], slot: usize) -> u64
     }
 }
 
-/// Nothing, for each slot.
+/// Makes a list with `None` for each slot.
 fn nothing_kept<const P: usize, const C: usize>(
     alloc: Global,
     capacity: u32,
@@ -78,7 +121,19 @@ fn nothing_kept<const P: usize, const C: usize>(
 }
 
 impl<const P: usize, const C: usize> Relays<P, C> {
-    /// Makes a table with no relayed address.
+    /// Makes a table with no relayed address and the clock at 0. `capacity` is the most relayed addresses
+    /// at a time, and `seed` keys the hashes of clients and users: pass random numbers.
+    ///
+    /// It takes all memory that the table ever needs: for each slot 616 bytes, and 48 for each of `P`
+    /// permissions and 80 for each of `C` channels, whether they are used or not.
+    ///
+    /// # Requires
+    ///
+    /// `capacity` is below 2^24, and `P` and `C` are at most 65,535.
+    ///
+    /// # Errors
+    ///
+    /// Only if an allocation of memory failed.
     pub fn new(alloc: Global, capacity: u32, seed: [u64; 2]) -> Result<Self, AllocError>
         requires capacity { capacity < 2 ^ 24 }
         requires permissions { P ≤ 65_535 }
@@ -101,28 +156,29 @@ impl<const P: usize, const C: usize> Relays<P, C> {
         })
     }
 
-    /// The clock of the table.
+    /// Returns the clock: the latest moment passed to [`Relays::advance`], or 0.
     pub fn clock(&self) -> u128
         ensures { result ≡ self.now.clock }
     {
         self.clock
     }
 
-    /// Advances the clock. A clock that steps back counts as stopped.
+    /// Advances the clock to `now`, or leaves it if `now` is before it: a clock that steps back counts as
+    /// stopped. Ends nothing.
     pub fn advance(&mut self, now: u64)
         ensures { self.new ≡ record self.old { clock = max self.old.clock now } }
     {
         self.clock = self.clock.max(now as u128);
     }
 
-    /// How many relayed addresses there are.
+    /// Returns the number of relayed addresses.
     pub fn len(&self) -> usize
         ensures { result ≡ length (state_of self.now).relays }
     {
         self.slots.len()
     }
 
-    /// How many relayed addresses a user has.
+    /// Returns the number of the user's relayed addresses: a dual allocation counts as two.
     pub fn count_by_user(&self, user: UserId) -> usize
         ensures { result ≡ count_by (is_users (user_number user)) (state_of self.now).relays }
     {
@@ -130,7 +186,7 @@ impl<const P: usize, const C: usize> Relays<P, C> {
         self.slots.count_by_user(user)
     }
 
-    /// The slot of a client's relayed address of a family.
+    /// Returns the slot of the client's relayed address of a family, or `None` if the client has none.
     pub fn find_by_key(&self, key: &RelayKey) -> Option<usize>
         ensures some { IfSome result (λ slot. (r : Relay) × Holds self.now slot r
             × (is_for key.now.tuple key.now.family r ≡ true)) }
@@ -141,7 +197,23 @@ impl<const P: usize, const C: usize> Relays<P, C> {
         self.slots.find_by_key(key)
     }
 
-    /// The slot of the relayed address with a number.
+    /// Returns the slot of the relayed address with a number, or `None` if no relayed address has it.
+    ///
+    /// ```
+    /// use stun_endpoints::Endpoint;
+    /// use turn_relays::Relays;
+    /// use turn_slots::{RelayKey, UserId};
+    ///
+    /// let mut relays = Relays::<16, 8>::new(alloc, 1, [1, 2])?;
+    /// let (key, user, address) = (RelayKey::default(), UserId::default(), Endpoint::default());
+    /// let first = relays.open(key, user, 7, address, 600).unwrap_or(0);
+    /// assert_eq!(rt; relays.find_by_number(first), Some(0));
+    /// assert_eq!(rt; relays.end(0), Some(first));
+    /// let second = relays.open(key, user, 8, address, 600).unwrap_or(0);
+    /// assert!(rt; first < second);
+    /// assert_eq!(rt; relays.find_by_number(first), None);
+    /// assert_eq!(rt; relays.end(0), Some(second));
+    /// ```
     pub fn find_by_number(&self, number: u64) -> Option<usize>
         ensures some { IfSome result (λ slot. (r : Relay) × Holds self.now slot r
             × (is_at number r ≡ true)) }
@@ -152,8 +224,19 @@ impl<const P: usize, const C: usize> Relays<P, C> {
         self.slots.find_by_number(number)
     }
 
-    /// Opens a relayed address, and returns the number of its socket. `None` if there is no room, or no
-    /// number is left.
+    /// Opens a relayed address with no permissions and no channels, and returns its number, which is above
+    /// the numbers of all opened before.
+    ///
+    /// `opened_by` is the transaction ID of the request, `address` the relayed transport address, and
+    /// `until` when it ends.
+    ///
+    /// Returns `None`, and changes nothing, if no slot is free, or if 2^40 relayed addresses have been
+    /// opened: then no number is left, and no other is ever opened.
+    ///
+    /// # Requires
+    ///
+    /// No relayed address has the key, so that [`Relays::find_by_key`] returns `None`, and `until` is below
+    /// `u128::MAX`.
     pub fn open(
         &mut self,
         key: RelayKey,
@@ -176,7 +259,10 @@ impl<const P: usize, const C: usize> Relays<P, C> {
         Some(number)
     }
 
-    /// Ends a relayed address that has expired, and returns the number of its socket. `None` if none has.
+    /// Ends a relayed address that has expired, and returns its number. Call it until it returns `None` to
+    /// end them all.
+    ///
+    /// Returns `None`, and changes nothing, if none has expired.
     pub fn end_due(&mut self) -> Option<u64>
         ensures some { IfSome result (λ number. (slot : ℕ) × (r : Relay) × Holds self.old slot r
             × (r.number ≡ number) × (r.until ≤ self.old.clock)
@@ -189,7 +275,27 @@ impl<const P: usize, const C: usize> Relays<P, C> {
         Some(entry.number)
     }
 
-    /// Gives the relayed address in a slot another end.
+    /// Gives the relayed address in a slot another end, before the old one or after it.
+    ///
+    /// Changes nothing if the slot is free or not below the capacity.
+    ///
+    /// # Requires
+    ///
+    /// `until` is below `u128::MAX`.
+    ///
+    /// ```
+    /// use stun_endpoints::Endpoint;
+    /// use turn_relays::Relays;
+    /// use turn_slots::{RelayKey, UserId};
+    ///
+    /// let mut relays = Relays::<16, 8>::new(alloc, 1, [1, 2])?;
+    /// let (key, user, address) = (RelayKey::default(), UserId::default(), Endpoint::default());
+    /// let number = relays.open(key, user, 7, address, 600);
+    /// relays.advance(500);
+    /// assert_eq!(rt; relays.end_due(), None);
+    /// relays.set_end(0, 400);
+    /// assert_eq!(rt; relays.end_due(), number);
+    /// ```
     pub fn set_end(&mut self, slot: usize, until: u128)
         requires { until < never }
         ensures { MatchOption (at_slot self.old slot) (self.new ≡ self.old)
@@ -198,7 +304,10 @@ impl<const P: usize, const C: usize> Relays<P, C> {
         self.slots.set_deadline(slot, until);
     }
 
-    /// Ends the relayed address in a slot, and returns the number of its socket.
+    /// Ends the relayed address in a slot, with its permissions and channels, and returns its number. The
+    /// slot is free at once.
+    ///
+    /// Returns `None`, and changes nothing, if the slot is free or not below the capacity.
     pub fn end(&mut self, slot: usize) -> Option<u64>
         ensures { MatchOption (at_slot self.old slot)
             ((result ≡ None) × (self.new ≡ self.old))

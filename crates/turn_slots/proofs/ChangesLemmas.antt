@@ -1,4 +1,4 @@
--- A table before and after an allocation is opened, ends, or gets another deadline.
+-- A table before and after a relayed address is opened, ends, or gets another deadline.
 use Rattle.std.proofs.Common.{◌≡◌, ◌⊎◌, ℕ, ◌+◌, ◌*◌, ◌%◌, ◌<◌, ◌≤◌, true, false, List, Option, None, Some, length, get_or, set, sym, ap, subst, refl, ◌∙◌, inl, inr, arith}
 use Rattle.std.specs.Prelude.{nat_lt}
 use Rattle.std.specs.Option.{IfSome, IfNone}
@@ -14,7 +14,7 @@ use Rattle.turn_slots.specs.Keys.{IsFullOf}
 use Rattle.turn_slots.specs.Deadlines.{never}
 use Rattle.turn_slots.proofs.RingsLemmas.{same_or_not}
 use Rattle.turn_slots.proofs.KeysLemmas.{none_isnt, some_same, is_there}
-use Rattle.turn_slots.proofs.TableLemmas.{relay_itself, relay_same, client_free, client_there, client_used, held_low, place_free, opened_held, ended_held, same_held, table_set}
+use Rattle.turn_slots.proofs.TableLemmas.{relay_itself, relay_same, key_free, key_there, key_used, held_low, place_free, opened_held, ended_held, same_held, table_set}
 
 -- what `get` returns
 pub found_at : (items xs : List (Option Entry)) (slot : ℕ) (o : Option Entry) (e : Entry) → xs ≡ items → true ≡ nat_lt slot (length xs) → o ≡ get_or xs slot o → o ≡ Some e → get_or items slot None ≡ Some e
@@ -24,59 +24,59 @@ found_at items xs slot o e same lt is some =
 false_true : false ≡ true → ⊥
 false_true e = cc
 
-module _ (round : ℕ) (entries : List (Option Entry)) (clients : List (Option RelayKey)) (users : List (Option UserId)) (holders : Partition) (deadlines : List ℕ)
-    (t : IsTable round entries clients users holders deadlines) where
-  clients_size : length clients ≡ length entries
-  clients_size = ap length t.keys_are ∙ length-map entries key_at
+module _ (round : ℕ) (entries : List (Option Entry)) (keys : List (Option RelayKey)) (users : List (Option UserId)) (holders : Partition) (deadlines : List ℕ)
+    (t : IsTable round entries keys users holders deadlines) where
+  keys_size : length keys ≡ length entries
+  keys_size = ap length t.keys_are ∙ length-map entries key_at
 
   -- ---- An opening
 
-  pub full_table : IsFullOf clients → (slot : ℕ) → slot < length entries → (e : Entry) × (get_or entries slot None ≡ Some e)
-  full_table full slot lt = let it = full slot (let size = clients_size in omega (arith, size, lt)) in client_used entries clients t.keys_are it.0 slot it.0 it.1
+  pub full_table : IsFullOf keys → (slot : ℕ) → slot < length entries → (e : Entry) × (get_or entries slot None ≡ Some e)
+  full_table full slot lt = let it = full slot (let size = keys_size in omega (arith, size, lt)) in key_used entries keys t.keys_are it.0 slot it.0 it.1
 
-  pub room_for_user : (slot : ℕ) → slot < length clients → get_or clients slot None ≡ None → (client : RelayKey) → IsFullOf users → ⊥
-  room_for_user slot lt free client = place_free entries users holders t.users_are slot (let size = clients_size in omega (arith, size, lt)) (client_free entries clients t.keys_are client slot free)
+  pub room_for_user : (slot : ℕ) → slot < length keys → get_or keys slot None ≡ None → (key : RelayKey) → IsFullOf users → ⊥
+  room_for_user slot lt free key = place_free entries users holders t.users_are slot (let size = keys_size in omega (arith, size, lt)) (key_free entries keys t.keys_are key slot free)
 
-  pub not_there : (slot : ℕ) → slot < length clients → get_or clients slot None ≡ None → (client : RelayKey) (user : UserId) (place : ℕ) (users2 : List (Option UserId)) → IsPlaceOf user users place users2 → get_or holders.group_of slot 0 ≡ place → ⊥
-  not_there slot lt free client user place users2 p e =
-      let size = clients_size in
+  pub not_there : (slot : ℕ) → slot < length keys → get_or keys slot None ≡ None → (key : RelayKey) (user : UserId) (place : ℕ) (users2 : List (Option UserId)) → IsPlaceOf user users place users2 → get_or holders.group_of slot 0 ≡ place → ⊥
+  not_there slot lt free key user place users2 p e =
+      let size = keys_size in
       let h = t.users_are in
-      let last = h.free slot (omega (arith, size, lt)) (client_free entries clients t.keys_are client slot free) in
+      let last = h.free slot (omega (arith, size, lt)) (key_free entries keys t.keys_are key slot free) in
       let low = is_there users2 place user p.there in
       let size2 = p.size in
       let users_size = h.users_size in
       absurd (omega (arith, last, low, size2, users_size, e))
 
-  pub opened_table : (slot : ℕ) → slot < length clients → get_or clients slot None ≡ None → (client : RelayKey) (user : UserId) (deadline : ℕ)
-      → ((j : ℕ) (b : Entry) → get_or entries j None ≡ Some b → is_relay client b.key ≡ false) → deadline < never
+  pub opened_table : (slot : ℕ) → slot < length keys → get_or keys slot None ≡ None → (key : RelayKey) (user : UserId) (deadline : ℕ)
+      → ((j : ℕ) (b : Entry) → get_or entries j None ≡ Some b → is_relay key b.key ≡ false) → deadline < never
       → (place : ℕ) (users2 : List (Option UserId)) → IsPlaceOf user users place users2
       → (holders2 : Partition) → holders2 ≡ record { groups = holders.groups; group_of = set holders.group_of slot place }
-      → (clients2 : List (Option RelayKey)) → clients2 ≡ set clients slot (Some client)
+      → (keys2 : List (Option RelayKey)) → keys2 ≡ set keys slot (Some key)
       → (deadlines2 : List ℕ) → deadlines2 ≡ set deadlines slot deadline → (round2 : ℕ) → round2 ≤ rounds
-      → IsTable round2 (set entries slot (Some (record { key = client; user = user; number = round * 16_777_216 + slot; deadline = deadline }))) clients2 users2 holders2 deadlines2
-  opened_table slot lt free client user deadline absent soon place users2 p holders2 holders_are clients2 keys_are deadlines2 deadlines_are round2 bounded =
-      let size = clients_size in
+      → IsTable round2 (set entries slot (Some (record { key = key; user = user; number = round * 16_777_216 + slot; deadline = deadline }))) keys2 users2 holders2 deadlines2
+  opened_table slot lt free key user deadline absent soon place users2 p holders2 holders_are keys2 keys_are deadlines2 deadlines_are round2 bounded =
+      let size = keys_size in
       let slot_in : slot < length entries = omega (arith, size, lt) in
       let few = t.few in
-      let empty = client_free entries clients t.keys_are client slot free in
-      let it : Entry = record { key = client; user = user; number = round * 16_777_216 + slot; deadline = deadline } in
-      table_set round round2 entries clients clients2 users users2 holders holders2 deadlines deadlines2 t bounded slot slot_in (Some (record { key = client; user = user; number = round * 16_777_216 + slot; deadline = deadline })) keys_are deadlines_are
-      (opened_held entries users holders t.users_are slot slot_in empty (record { key = client; user = user; number = round * 16_777_216 + slot; deadline = deadline }) place users2 p holders2 holders_are)
+      let empty = key_free entries keys t.keys_are key slot free in
+      let it : Entry = record { key = key; user = user; number = round * 16_777_216 + slot; deadline = deadline } in
+      table_set round round2 entries keys keys2 users users2 holders holders2 deadlines deadlines2 t bounded slot slot_in (Some (record { key = key; user = user; number = round * 16_777_216 + slot; deadline = deadline })) keys_are deadlines_are
+      (opened_held entries users holders t.users_are slot slot_in empty (record { key = key; user = user; number = round * 16_777_216 + slot; deadline = deadline }) place users2 p holders2 holders_are)
       (λ e same.
-      let is = some_same (record { key = client; user = user; number = round * 16_777_216 + slot; deadline = deadline }) e same in
+      let is = some_same (record { key = key; user = user; number = round * 16_777_216 + slot; deadline = deadline }) e same in
       let number : round * 16_777_216 + slot ≡ e.number = ap (λ (z : Entry). z.number) is in
       let due : deadline ≡ e.deadline = ap (λ (z : Entry). z.deadline) is in
-      let whose : client ≡ e.key = ap (λ (z : Entry). z.key) is in
+      let whose : key ≡ e.key = ap (λ (z : Entry). z.key) is in
       let left : (round * 16_777_216 + slot) % 16_777_216 ≡ slot = omega (arith, slot_in, few) in (
         ap (λ (z : ℕ). z % 16_777_216) (sym number) ∙ left,
         omega (arith, due, soon),
-        λ j b there at equal. false_true (sym (absent j b at) ∙ subst (λ (z : RelayKey). is_relay client z ≡ true) (whose ∙ equal) (relay_itself client)),
+        λ j b there at equal. false_true (sym (absent j b at) ∙ subst (λ (z : RelayKey). is_relay key z ≡ true) (whose ∙ equal) (relay_itself key)),
       ))
 
   -- ---- An end
 
-  pub client_of : (slot : ℕ) (e : Entry) → get_or entries slot None ≡ Some e → (k : RelayKey) × (get_or clients slot None ≡ Some k)
-  client_of slot e at = (e.key, client_there entries clients t.keys_are e.key slot e at)
+  pub key_of : (slot : ℕ) (e : Entry) → get_or entries slot None ≡ Some e → (k : RelayKey) × (get_or keys slot None ≡ Some k)
+  key_of slot e at = (e.key, key_there entries keys t.keys_are e.key slot e at)
 
   pub user_of : (slot : ℕ) (e : Entry) → get_or entries slot None ≡ Some e → (place : ℕ) → place ≡ get_or holders.group_of slot 0 → (u : UserId) × (get_or users place None ≡ Some u)
   user_of slot e at place is = let h = t.users_are in (e.user, ap (λ (z : ℕ). get_or users z None) is ∙ h.held slot e at)
@@ -87,16 +87,16 @@ module _ (round : ℕ) (entries : List (Option Entry)) (clients : List (Option R
   pub ended_table : (slot : ℕ) (e : Entry) → get_or entries slot None ≡ Some e → (place : ℕ) → place ≡ get_or holders.group_of slot 0
       → (holders2 : Partition) → holders2 ≡ record { groups = holders.groups; group_of = set holders.group_of slot (length entries) }
       → (users2 : List (Option UserId)) → ((number_in place holders2.group_of ≡ 0) × (users2 ≡ set users place None)) ⊎ ((number_in place holders2.group_of ≡ 0 → ⊥) × (users2 ≡ users))
-      → (clients2 : List (Option RelayKey)) → clients2 ≡ set clients slot None
+      → (keys2 : List (Option RelayKey)) → keys2 ≡ set keys slot None
       → (deadlines2 : List ℕ) → deadlines2 ≡ set deadlines slot never
-      → IsTable round (set entries slot None) clients2 users2 holders2 deadlines2
-  ended_table slot e at place place_is holders2 holders_are users2 users_are clients2 keys_are deadlines2 deadlines_are =
+      → IsTable round (set entries slot None) keys2 users2 holders2 deadlines2
+  ended_table slot e at place place_is holders2 holders_are users2 users_are keys2 keys_are deadlines2 deadlines_are =
       let p : ℕ = get_or holders.group_of slot 0 in
       let whose = user_of slot e at place place_is in
       let place_in = is_there users place whose.0 whose.1 in
       let number : number_in place holders2.group_of ≡ number_in (get_or holders.group_of slot 0) (set holders.group_of slot (length entries)) =
       ap (λ (z : Partition). number_in place z.group_of) holders_are ∙ ap (λ (z : ℕ). number_in z (set holders.group_of slot (length entries))) place_is in
-      table_set round round entries clients clients2 users users2 holders holders2 deadlines deadlines2 t t.bounded slot (is_there entries slot e at) None keys_are deadlines_are
+      table_set round round entries keys keys2 users users2 holders holders2 deadlines deadlines2 t t.bounded slot (is_there entries slot e at) None keys_are deadlines_are
       (elim users_are [
         | inl gone ↦
             ended_held entries users holders t.users_are slot e at users2 (ap length gone.1 ∙ length-set users place None)
@@ -117,12 +117,12 @@ module _ (round : ℕ) (entries : List (Option Entry)) (clients : List (Option R
 
   pub due_table : (slot : ℕ) (e : Entry) → get_or entries slot None ≡ Some e → (deadline : ℕ) → deadline < never
       → (deadlines2 : List ℕ) → deadlines2 ≡ set deadlines slot deadline
-      → IsTable round (set entries slot (Some (record { key = e.key; user = e.user; number = e.number; deadline = deadline }))) clients users holders deadlines2
+      → IsTable round (set entries slot (Some (record { key = e.key; user = e.user; number = e.number; deadline = deadline }))) keys users holders deadlines2
   due_table slot e at deadline soon deadlines2 deadlines_are =
       let lt = is_there entries slot e at in
-      let there = client_there entries clients t.keys_are e.key slot e at in
-      table_set round round entries clients clients users users holders holders deadlines deadlines2 t t.bounded slot lt (Some (record { key = e.key; user = e.user; number = e.number; deadline = deadline }))
-      (sym (ap (set clients slot) (sym there) ∙ set-get_or clients slot None)) deadlines_are
+      let there = key_there entries keys t.keys_are e.key slot e at in
+      table_set round round entries keys keys users users holders holders deadlines deadlines2 t t.bounded slot lt (Some (record { key = e.key; user = e.user; number = e.number; deadline = deadline }))
+      (sym (ap (set keys slot) (sym there) ∙ set-get_or keys slot None)) deadlines_are
       (same_held entries users holders t.users_are slot e (record { key = e.key; user = e.user; number = e.number; deadline = deadline }) at refl)
       (λ a same.
       let is = some_same (record { key = e.key; user = e.user; number = e.number; deadline = deadline }) a same in
@@ -134,11 +134,11 @@ module _ (round : ℕ) (entries : List (Option Entry)) (clients : List (Option R
         λ j b there_not at_b equal. there_not (sym (t.one_key slot j e b at at_b (whose ∙ equal))),
       ))
 
-  -- ---- A client's slot
+  -- ---- The slot of a key
 
-  pub only_slot : (client : RelayKey) (o : Option ℕ) → IfSome o (λ slot. (e : Entry) × (get_or entries slot None ≡ Some e) × (is_relay client e.key ≡ true))
-      → IfNone o ((slot : ℕ) (e : Entry) → get_or entries slot None ≡ Some e → is_relay client e.key ≡ false)
-      → (slot : ℕ) (e : Entry) → get_or entries slot None ≡ Some e → is_relay client e.key ≡ true → o ≡ Some slot
-  only_slot client None some none slot e at is = absurd (false_true (sym (none slot e at) ∙ is))
-  only_slot client (Some place) some none slot e at is =
-      ap Some (t.one_key place slot some.0 e some.1 at (sym (relay_same client some.0.key some.2) ∙ relay_same client e.key is))
+  pub only_slot : (key : RelayKey) (o : Option ℕ) → IfSome o (λ slot. (e : Entry) × (get_or entries slot None ≡ Some e) × (is_relay key e.key ≡ true))
+      → IfNone o ((slot : ℕ) (e : Entry) → get_or entries slot None ≡ Some e → is_relay key e.key ≡ false)
+      → (slot : ℕ) (e : Entry) → get_or entries slot None ≡ Some e → is_relay key e.key ≡ true → o ≡ Some slot
+  only_slot key None some none slot e at is = absurd (false_true (sym (none slot e at) ∙ is))
+  only_slot key (Some place) some none slot e at is =
+      ap Some (t.one_key place slot some.0 e some.1 at (sym (relay_same key some.0.key some.2) ∙ relay_same key e.key is))

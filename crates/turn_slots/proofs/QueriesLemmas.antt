@@ -1,4 +1,4 @@
--- The deadlines of a table, the allocations of a user, and the number of all.
+-- The deadlines of a table, the relayed addresses of a user, and the number of all.
 use Rattle.std.proofs.Common.{◌≡◌, ℕ, ◌+◌, ◌-◌, ◌<◌, ◌≤◌, ◌^◌, Bool, true, false, not, List, [], ◌∷◌, Option, None, Some, length, get_or, map, replicate, count_by, cond, suc, zero, sym, ap, subst, refl, ◌∙◌, inl, inr, arith}
 use Rattle.std.specs.Prelude.{◌==◌}
 use Rattle.std.proofs.lemmas.Bool.{cases_lt, eq-eqb, ne_eqb}
@@ -46,8 +46,8 @@ count_split f (x ∷ xs) =
     let one = one_or_none (f x) in
     omega (arith, a, b, rest, one)
 
-module _ (round : ℕ) (entries : List (Option Entry)) (clients : List (Option RelayKey)) (users : List (Option UserId)) (holders : Partition) (deadlines : List ℕ)
-    (t : IsTable round entries clients users holders deadlines) where
+module _ (round : ℕ) (entries : List (Option Entry)) (keys : List (Option RelayKey)) (users : List (Option UserId)) (holders : Partition) (deadlines : List ℕ)
+    (t : IsTable round entries keys users holders deadlines) where
   -- ---- Deadlines
 
   deadlines_size : length deadlines ≡ length entries
@@ -82,7 +82,7 @@ module _ (round : ℕ) (entries : List (Option Entry)) (clients : List (Option R
   some_deadline : (least : ℕ) → (length deadlines ≡ 0 → least ≡ never) → (least ≡ never → ⊥) → 0 < length deadlines
   some_deadline least none isnt = elim (cases_lt 0 (length deadlines)) [ inl some ↦ some | inr empty ↦ absurd (isnt (none (omega (arith, empty)))) ]
 
-  -- a slot whose deadline is this one, which isn't the last of all, holds an allocation
+  -- a slot whose deadline is this one, which isn't the last of all, holds a relayed address
   holds_at : (slot least : ℕ) → slot < length deadlines → get_or deadlines slot 0 ≡ least → (least ≡ never → ⊥) → (e : Entry) × (get_or entries slot None ≡ Some e) × (e.deadline ≡ least)
   holds_at slot least lt is isnt = elim (none_or_some (get_or entries slot None)) [
     | inl free ↦ absurd (isnt (sym is ∙ deadline_free slot (let size = deadlines_size in omega (arith, size, lt)) free))
@@ -111,8 +111,8 @@ module _ (round : ℕ) (entries : List (Option Entry)) (clients : List (Option R
 
   -- ---- Users
 
-  key_found : (user : UserId) (place : ℕ) → has_key_at is_user users place user ≡ true → get_or users place None ≡ Some user
-  key_found user place is = elim (none_or_some (get_or users place None)) [
+  user_found : (user : UserId) (place : ℕ) → has_key_at is_user users place user ≡ true → get_or users place None ≡ Some user
+  user_found user place is = elim (none_or_some (get_or users place None)) [
     | inl none ↦ absurd (false_true (sym (ap (is_key is_user user) none) ∙ is))
     | inr it ↦ it.1 ∙ ap Some (sym (user_same user it.0 (sym (ap (is_key is_user user) it.1) ∙ is)))
   ]
@@ -122,7 +122,7 @@ module _ (round : ℕ) (entries : List (Option Entry)) (clients : List (Option R
   whose user place is slot lt group =
       let h = t.users_are in
       let members = h.members in
-      let key = key_found user place is in
+      let key = user_found user place is in
       elim (none_or_some (get_or entries slot None)) [
         | inl free ↦ absurd (
             let low = is_there users place user key in
@@ -137,7 +137,7 @@ module _ (round : ℕ) (entries : List (Option Entry)) (clients : List (Option R
   pub at_place : (user : UserId) (place : ℕ) → has_key_at is_user users place user ≡ true → (slot : ℕ) (e : Entry) → get_or entries slot None ≡ Some e → is_user user e.user ≡ true → get_or holders.group_of slot 0 ≡ place
   at_place user place is slot e at same =
       let h = t.users_are in
-      h.one (get_or holders.group_of slot 0) place user (h.held slot e at ∙ ap Some (sym (user_same user e.user same))) (key_found user place is)
+      h.one (get_or holders.group_of slot 0) place user (h.held slot e at ∙ ap Some (sym (user_same user e.user same))) (user_found user place is)
 
   pub none_of : (user : UserId) (place : ℕ) → has_key_at is_user users place user ≡ true → ((slot : ℕ) → slot < length holders.group_of → get_or holders.group_of slot 0 ≡ place → ⊥)
       → (slot : ℕ) (e : Entry) → get_or entries slot None ≡ Some e → is_user user e.user ≡ false
@@ -160,7 +160,7 @@ module _ (round : ℕ) (entries : List (Option Entry)) (clients : List (Option R
         | inl free ↦
             ne_eqb (get_or holders.group_of i 0) place (λ e.
             let last = h.free i (omega (arith, lt, members)) free in
-            let low = is_there users place user (key_found user place is) in
+            let low = is_there users place user (user_found user place is) in
             let size = h.users_size in
             absurd (omega (arith, last, low, size, e)))
             ∙ sym (ap (is_users user) free)
@@ -212,13 +212,13 @@ none_in n i x is = elim (cases_lt i n) [
   | inr ge ↦ none_isnt x (sym (get_or_past (replicate {A = Option _} n None) i None (subst (λ (z : ℕ). z ≤ i) (sym (length-replicate {A = Option _} n None)) ge)) ∙ is)
 ]
 
-pub fresh_table : (n : ℕ) → n < 2 ^ 24 → (entries : List (Option Entry)) → entries ≡ replicate n None → (clients : List (Option RelayKey)) → clients ≡ replicate n None
+pub fresh_table : (n : ℕ) → n < 2 ^ 24 → (entries : List (Option Entry)) → entries ≡ replicate n None → (keys : List (Option RelayKey)) → keys ≡ replicate n None
     → (users : List (Option UserId)) → users ≡ replicate n None → (holders : Partition) → holders ≡ record { groups = n + 1; group_of = replicate n (n + 1 - 1) }
-    → (deadlines : List ℕ) → deadlines ≡ replicate n never → IsTable 0 entries clients users holders deadlines
-fresh_table n few entries entries_are clients keys_are users users_are holders holders_are deadlines deadlines_are =
-    subst (λ (z : List (Option Entry)). IsTable 0 z clients users holders deadlines) (sym entries_are)
-    (subst (λ (z : List (Option UserId)). IsTable 0 (replicate n None) clients z holders deadlines) (sym users_are)
-    (subst (λ (z : Partition). IsTable 0 (replicate n None) clients (replicate n None) z deadlines) (sym holders_are)
+    → (deadlines : List ℕ) → deadlines ≡ replicate n never → IsTable 0 entries keys users holders deadlines
+fresh_table n few entries entries_are keys keys_are users users_are holders holders_are deadlines deadlines_are =
+    subst (λ (z : List (Option Entry)). IsTable 0 z keys users holders deadlines) (sym entries_are)
+    (subst (λ (z : List (Option UserId)). IsTable 0 (replicate n None) keys z holders deadlines) (sym users_are)
+    (subst (λ (z : Partition). IsTable 0 (replicate n None) keys (replicate n None) z deadlines) (sym holders_are)
     (let size : length (replicate {A = Option Entry} n None) ≡ n = length-replicate {A = Option Entry} n None in
     record {
       few = omega (arith, size, few);

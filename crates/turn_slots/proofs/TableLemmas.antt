@@ -21,7 +21,7 @@ use Rattle.turn_slots.proofs.RingsLemmas.{same_or_not}
 use Rattle.turn_slots.proofs.MovesLemmas.{one_if}
 use Rattle.turn_slots.proofs.KeysLemmas.{none_or_some, none_isnt, some_same, is_there}
 
--- ---- Clients and users that are equal by the test
+-- ---- Keys and users that are equal by the test
 
 false_isnt : false ≡ true → ⊥
 false_isnt e = cc
@@ -88,38 +88,38 @@ map_at f xs i = elim (cases_lt i (length xs)) [
   | inr ge ↦ get_or_past (map f xs) i (f None) (subst (λ (z : ℕ). z ≤ i) (sym (length-map xs f)) ge) ∙ ap f (sym (get_or_past xs i None ge))
 ]
 
--- ---- A client's slot
+-- ---- The slot of a key
 
-module _ (entries : List (Option Entry)) (clients : List (Option RelayKey)) (are : clients ≡ map key_at entries)
-    (client : RelayKey) (slot : ℕ) where
-  clients_at : get_or clients slot None ≡ key_at (get_or entries slot None)
-  clients_at = ap (λ (z : List (Option RelayKey)). get_or z slot None) are ∙ map_at key_at entries slot
+module _ (entries : List (Option Entry)) (keys : List (Option RelayKey)) (are : keys ≡ map key_at entries)
+    (key : RelayKey) (slot : ℕ) where
+  keys_at : get_or keys slot None ≡ key_at (get_or entries slot None)
+  keys_at = ap (λ (z : List (Option RelayKey)). get_or z slot None) are ∙ map_at key_at entries slot
 
-  key_is : has_key_at is_relay clients slot client ≡ is_key is_relay client (key_at (get_or entries slot None))
-  key_is = ap (is_key is_relay client) clients_at
+  key_is : has_key_at is_relay keys slot key ≡ is_key is_relay key (key_at (get_or entries slot None))
+  key_is = ap (is_key is_relay key) keys_at
 
-  pub client_found : has_key_at is_relay clients slot client ≡ true → (e : Entry) × (get_or entries slot None ≡ Some e) × (is_relay client e.key ≡ true)
-  client_found is = elim (none_or_some (get_or entries slot None)) [
-    | inl none ↦ absurd (false_isnt (sym (ap (λ (o : Option Entry). is_key is_relay client (key_at o)) none) ∙ (sym key_is ∙ is)))
-    | inr it ↦ (it.0, it.1, sym (ap (λ (o : Option Entry). is_key is_relay client (key_at o)) it.1) ∙ (sym key_is ∙ is))
+  pub key_found : has_key_at is_relay keys slot key ≡ true → (e : Entry) × (get_or entries slot None ≡ Some e) × (is_relay key e.key ≡ true)
+  key_found is = elim (none_or_some (get_or entries slot None)) [
+    | inl none ↦ absurd (false_isnt (sym (ap (λ (o : Option Entry). is_key is_relay key (key_at o)) none) ∙ (sym key_is ∙ is)))
+    | inr it ↦ (it.0, it.1, sym (ap (λ (o : Option Entry). is_key is_relay key (key_at o)) it.1) ∙ (sym key_is ∙ is))
   ]
 
-  pub client_absent : has_key_at is_relay clients slot client ≡ false → (e : Entry) → get_or entries slot None ≡ Some e → is_relay client e.key ≡ false
-  client_absent is e at = sym (ap (λ (o : Option Entry). is_key is_relay client (key_at o)) at) ∙ (sym key_is ∙ is)
+  pub key_absent : has_key_at is_relay keys slot key ≡ false → (e : Entry) → get_or entries slot None ≡ Some e → is_relay key e.key ≡ false
+  key_absent is e at = sym (ap (λ (o : Option Entry). is_key is_relay key (key_at o)) at) ∙ (sym key_is ∙ is)
 
   -- a slot is free for both or for neither
-  pub client_free : get_or clients slot None ≡ None → get_or entries slot None ≡ None
-  client_free free = elim (none_or_some (get_or entries slot None)) [
+  pub key_free : get_or keys slot None ≡ None → get_or entries slot None ≡ None
+  key_free free = elim (none_or_some (get_or entries slot None)) [
     | inl none ↦ none
-    | inr it ↦ absurd (none_isnt it.0.key (sym free ∙ (clients_at ∙ ap key_at it.1)))
+    | inr it ↦ absurd (none_isnt it.0.key (sym free ∙ (keys_at ∙ ap key_at it.1)))
   ]
 
-  pub client_there : (e : Entry) → get_or entries slot None ≡ Some e → get_or clients slot None ≡ Some e.key
-  client_there e at = clients_at ∙ ap key_at at
+  pub key_there : (e : Entry) → get_or entries slot None ≡ Some e → get_or keys slot None ≡ Some e.key
+  key_there e at = keys_at ∙ ap key_at at
 
-  pub client_used : (k : RelayKey) → get_or clients slot None ≡ Some k → (e : Entry) × (get_or entries slot None ≡ Some e)
-  client_used k at = elim (none_or_some (get_or entries slot None)) [
-    | inl none ↦ absurd (none_isnt k (sym (clients_at ∙ ap key_at none) ∙ at))
+  pub key_used : (k : RelayKey) → get_or keys slot None ≡ Some k → (e : Entry) × (get_or entries slot None ≡ Some e)
+  key_used k at = elim (none_or_some (get_or entries slot None)) [
+    | inl none ↦ absurd (none_isnt k (sym (keys_at ∙ ap key_at none) ∙ at))
     | inr it ↦ it
   ]
 
@@ -346,12 +346,12 @@ module _ (entries : List (Option Entry)) (users : List (Option UserId)) (holders
 
 -- ---- The table with another entry in a slot
 
-pub table_set : (round round2 : ℕ) (entries : List (Option Entry)) (clients clients2 : List (Option RelayKey)) (users users2 : List (Option UserId)) (holders holders2 : Partition) (deadlines deadlines2 : List ℕ)
-    → IsTable round entries clients users holders deadlines → round2 ≤ rounds → (slot : ℕ) → slot < length entries → (o : Option Entry)
-    → clients2 ≡ set clients slot (key_at o) → deadlines2 ≡ set deadlines slot (deadline_at o) → AreHeld (set entries slot o) users2 holders2
+pub table_set : (round round2 : ℕ) (entries : List (Option Entry)) (keys keys2 : List (Option RelayKey)) (users users2 : List (Option UserId)) (holders holders2 : Partition) (deadlines deadlines2 : List ℕ)
+    → IsTable round entries keys users holders deadlines → round2 ≤ rounds → (slot : ℕ) → slot < length entries → (o : Option Entry)
+    → keys2 ≡ set keys slot (key_at o) → deadlines2 ≡ set deadlines slot (deadline_at o) → AreHeld (set entries slot o) users2 holders2
     → ((e : Entry) → o ≡ Some e → (e.number % places ≡ slot) × (e.deadline < never) × ((j : ℕ) (b : Entry) → (j ≡ slot → ⊥) → get_or entries j None ≡ Some b → e.key ≡ b.key → ⊥))
-    → IsTable round2 (set entries slot o) clients2 users2 holders2 deadlines2
-table_set round round2 entries clients clients2 users users2 holders holders2 deadlines deadlines2 t bounded slot lt o keys_are deadlines_are held fits =
+    → IsTable round2 (set entries slot o) keys2 users2 holders2 deadlines2
+table_set round round2 entries keys keys2 users users2 holders holders2 deadlines deadlines2 t bounded slot lt o keys_are deadlines_are held fits =
     let of_slot : (i : ℕ) (e : Entry) → i ≡ slot → get_or (set entries slot o) i None ≡ Some e → o ≡ Some e = λ i e here at. sym (get_or-set_same entries slot o None lt) ∙ (ap (λ (z : ℕ). get_or (set entries slot o) z None) (sym here) ∙ at) in
     let of_other : (i : ℕ) (e : Entry) → (i ≡ slot → ⊥) → get_or (set entries slot o) i None ≡ Some e → get_or entries i None ≡ Some e = λ i e there at. sym (get_or-set_other entries slot i o None there) ∙ at in
     record {

@@ -1,11 +1,11 @@
--- Relay numbers: each has its slot in its low 24 bits, and above them the openings before it.
+-- The numbers of relayed addresses: the slot in the low 24 bits, and above them how many were opened before.
 use Rattle.std.specs.Prelude.{ℕ, ◌+◌, ◌*◌, ◌<◌}
 
--- how many slots there can be: 2^24
+-- each slot is below this: 2^24
 abbrev pub places : ℕ
 places = 16_777_216
 
--- how many openings there can be: 2^40
+-- the most openings that there can be: 2^40
 abbrev pub rounds : ℕ
 rounds = 1_099_511_627_776
 

@@ -1,4 +1,4 @@
--- What identifies a relayed address: a client, and its family (RFC 8656, section 5).
+-- What identifies a relayed address: its client and its family (RFC 8656, section 5).
 use Rattle.std.specs.Prelude.{Bool, ◌&&◌, ◌==◌}
 use Rattle.stun_endpoints.specs.Endpoints.{is_tuple}
 pub use Rattle.turn_slots.specs.declared.relay_key.RelayKey.{RelayKey}

@@ -1,4 +1,4 @@
--- The user of an allocation (RFC 8656, section 6), a number of 256 bits in two halves.
+-- The user of a relayed address, a number of 256 bits in two halves.
 use Rattle.std.specs.Prelude.{◌≡◌, ℕ, ◌+◌, ◌*◌, ◌^◌, ◌==◌, ◌&&◌, Bool, List, length, fold, take, drop}
 pub use Rattle.turn_slots.specs.declared.users.UserId.{UserId}
 

@@ -1,4 +1,4 @@
-//! Keyed hashes of clients and users.
+//! Keyed hashes of keys and users.
 
 ghost use Rattle.std.specs.Prelude.{◌≡◌, ◌%◌, ◌<◌};
 ghost use Rattle.turn_slots.specs.Hashes.{secret_of, bucket};

@@ -4,13 +4,13 @@ ghost use Rattle.turn_slots.specs.Lists.{ListsAgree};
 ghost use Rattle.turn_slots.specs.Numbers.{NumbersGrow};
 ghost use Rattle.turn_slots.specs.Users.{UserNumbersAreTheirBytes};
 
-/// The number of each opening is above those of all openings before it.
+/// The number of each opening is above the numbers of all openings before it.
 pub fn numbers_grow()
     ensures { NumbersGrow }
 {}
 
-/// But for the order, an opening puts an allocation in front of the list of all, an end takes it out,
-/// and a count over the slots is one over that list.
+/// But for the order, an opening puts a relayed address in front of the list of all, an end removes it, and
+/// a count over the slots is one over that list.
 pub fn lists_agree()
     ensures { ListsAgree }
 {}

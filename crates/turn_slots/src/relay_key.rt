@@ -9,8 +9,8 @@ ghost use Rattle.stun_endpoints.specs.Endpoints.{small_parts};
 use std::hash::{Hash, Hasher};
 use stun_endpoints::FiveTuple;
 
-/// A client and an address family: an allocation has at most one relayed address of a family (RFC 8656,
-/// section 5).
+/// A client and an address family. They identify a relayed address, since an allocation has at most one of
+/// each family (RFC 8656, section 5).
 #[derive(Clone, Copy, Debug, Default, PartialEq, Eq)]
 pub struct RelayKey {
     /// The client.

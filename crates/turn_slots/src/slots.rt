@@ -1,4 +1,4 @@
-//! The slots of a TURN server's allocations.
+//! The slots of a TURN server's relayed addresses.
 
 ghost use Rattle.std.specs.Prelude.{◌≡◌, ◌≢◌, ℕ, ◌+◌, ◌-◌, ◌<◌, ◌≤◌, ◌^◌, ◌==◌, true, false, length, None, Some, IfOk, IfSome, IfNone, MatchOption, IsTrue, count_by, replicate, slice_set};
 ghost use Rattle.turn_slots.specs.Relays.{is_relay};
@@ -20,47 +20,51 @@ use crate::users::UserId;
 use std::alloc::{AllocError, Global};
 use std::marker::Model;
 
-/// A relay number modulo this is its slot.
+/// A number modulo this is its slot.
 const PLACES: u64 = 16_777_216;
 
-/// How many openings there are at most.
+/// The most openings that there can be.
 const ROUNDS: u64 = 1_099_511_627_776;
 
-/// The allocation in a slot.
+/// A relayed address in its slot.
 #[derive(Clone, Copy, Debug, PartialEq, Eq)]
 pub struct Entry {
     /// The client, and the family of the relayed address.
     pub key: RelayKey,
     /// The user who opened it.
     pub user: UserId,
-    /// The relay number: the slot in its low 32 bits, and in its high 32 bits a counter of openings, so
-    /// that a number is used again only after 2^32 openings.
+    /// The relay number: the slot in its low 24 bits, and above them how many relayed addresses were opened
+    /// before this one. So each number is above those of all openings before
+    /// ([`numbers_grow`](crate::numbers_grow)), and no number is used again.
     pub number: u64,
-    /// When it ends, by the caller's clock.
+    /// When it ends, in the units of the caller's clock.
     pub deadline: u128,
 }
 
-/// The allocations of a TURN server, each in a slot of its own (RFC 8656, section 6).
+/// The relayed addresses of a TURN server's clients, each in a slot of its own (RFC 8656, section 6).
 ///
-/// A slot is an index below the capacity, and stays the same until its allocation ends: a caller can
-/// keep more of an allocation in a `Vec` of its own, by slot.
+/// An allocation has one relayed address, or two: one for IPv4 and one for IPv6. Each of them has a slot,
+/// found by its [`RelayKey`], and ends by itself.
 ///
-/// [`Slots::new`] takes all memory; no other call allocates. The cost of a call doesn't depend on how
-/// many allocations there are. A look-up by client or user hashes it, and walks over one bucket of a hash
-/// table, which nobody can fill at will without the seed. Setting a deadline, as opening and ending do
+/// A slot is an index below the capacity, and stays the same until its relayed address ends: a caller can
+/// keep more of a relayed address in a `Vec` of its own, by slot.
+///
+/// [`Slots::new`] takes all memory; no other call allocates. The cost of a call doesn't depend on how many
+/// relayed addresses there are. A look-up by key or user hashes it, and walks over one bucket of a hash
+/// table, which without the seed nobody can fill at will. To set a deadline, as an opening and an end do
 /// too, takes up to log2 of the capacity steps. [`Slots::iter`] alone walks over all slots.
 ///
 /// ```
-/// use turn_slots::{Slots, UserId};
+/// use turn_slots::{RelayKey, Slots, UserId};
 ///
 /// let mut slots = Slots::new(alloc, 100, [1, 2])?;
-/// let client = FiveTuple::default();
+/// let key = RelayKey { family: 1, ..RelayKey::default() };
 /// let user = UserId::from([1; 32]);
-/// assert!(rt; slots.find_by_key(&client).is_none());
+/// assert!(rt; slots.find_by_key(&key).is_none());
 ///
-/// let slot = slots.open(client, user, 600).unwrap_or(0);
+/// let slot = slots.open(key, user, 600).unwrap_or(0);
 /// let number = slots.entries()[slot].map_or(0, |entry| entry.number);
-/// assert_eq!(rt; slots.find_by_key(&client), Some(slot));
+/// assert_eq!(rt; slots.find_by_key(&key), Some(slot));
 /// assert_eq!(rt; slots.find_by_number(number), Some(slot));
 /// assert_eq!(rt; slots.count_by_user(user), 1);
 ///
@@ -70,12 +74,12 @@ pub struct Entry {
 /// ```
 #[derive(Drop)]
 pub struct Slots {
-    /// How many allocations were opened, modulo 2^32.
+    /// How many relayed addresses were opened.
     round: u64,
     entries: Vec<Option<Entry>>,
-    /// The client of each slot.
+    /// The key of each slot.
     keys: Keys<RelayKey>,
-    /// The users with allocations.
+    /// The users with relayed addresses.
     users: Keys<UserId>,
     /// The slots of each user's place, and after them the free slots.
     holders: Groups,
@@ -119,7 +123,7 @@ fn place_of(users: &mut Keys<UserId>, user: UserId) -> usize
 impl Slots {
     /// Makes slots that are all free. `seed` keys the hashes of clients and users: pass random numbers.
     ///
-    /// It takes all memory that the slots ever need, 440 bytes for each.
+    /// It takes all memory that the slots ever need, 504 bytes for each.
     ///
     /// # Requires
     ///
@@ -153,7 +157,7 @@ impl Slots {
         self.entries.len()
     }
 
-    /// Returns the number of allocations.
+    /// Returns the number of relayed addresses.
     pub fn len(&self) -> usize
         ensures { result ≡ count_by is_live self.now.entries }
     {
@@ -161,21 +165,21 @@ impl Slots {
         places - self.holders.count(places)
     }
 
-    /// Whether there are no allocations.
+    /// Whether there are no relayed addresses.
     pub fn is_empty(&self) -> bool
         ensures { result ≡ (count_by is_live self.now.entries == 0) }
     {
         self.len() == 0
     }
 
-    /// Borrows the allocation of each slot, `None` for a free one.
+    /// Borrows the relayed address of each slot, `None` for a free one.
     pub fn entries(&self) -> &[Option<Entry>]
         ensures { result.now ≡ self.now.entries }
     {
         &self.entries
     }
 
-    /// Iterates over the allocations with their slots, in the order of the slots. A whole walk takes a
+    /// Iterates over the relayed addresses with their slots, in the order of the slots. A whole walk takes a
     /// step for each slot, however few are taken.
     pub fn iter(&self) -> Iter<'_>
         ensures { taken_left result ≡ taken_from 0 self.now.entries }
@@ -186,7 +190,18 @@ impl Slots {
         }
     }
 
-    /// Returns the slot of the client's allocation, or `None` if the client has none.
+    /// Returns the slot of the client's relayed address of a family, or `None` if the client has none.
+    ///
+    /// ```
+    /// use turn_slots::{RelayKey, Slots, UserId};
+    ///
+    /// let mut slots = Slots::new(alloc, 4, [1, 2])?;
+    /// let ipv4 = RelayKey { family: 1, ..RelayKey::default() };
+    /// let ipv6 = RelayKey { family: 2, ..ipv4 };
+    /// let slot = slots.open(ipv4, UserId::default(), 600);
+    /// assert_eq!(rt; slots.find_by_key(&ipv4), slot);
+    /// assert_eq!(rt; slots.find_by_key(&ipv6), None);
+    /// ```
     pub fn find_by_key(&self, key: &RelayKey) -> Option<usize>
         ensures some { IfSome result (λ slot. (e : _) × Holds self.now slot e
             × (is_relay key.now e.key ≡ true)) }
@@ -197,7 +212,7 @@ impl Slots {
         self.keys.find(key)
     }
 
-    /// Returns the slot of the allocation with a relay number, or `None` if no allocation has it.
+    /// Returns the slot of the relayed address with a number, or `None` if no relayed address has it.
     pub fn find_by_number(&self, number: u64) -> Option<usize>
         ensures some { IfSome result (λ slot. (e : _) × Holds self.now slot e × (e.number ≡ number)) }
         ensures none { IfNone result (Each self.now (λ e. e.number ≢ number)) }
@@ -211,7 +226,7 @@ impl Slots {
         }
     }
 
-    /// Returns the slot of one of the user's allocations, or `None` if the user has none.
+    /// Returns the slot of one of the user's relayed addresses, or `None` if the user has none.
     pub fn find_by_user(&self, user: UserId) -> Option<usize>
         ensures some { IfSome result (λ slot. (e : _) × Holds self.now slot e
             × (is_user user e.user ≡ true)) }
@@ -221,7 +236,7 @@ impl Slots {
         self.holders.first(place)
     }
 
-    /// Returns the number of the user's allocations.
+    /// Returns the number of the user's relayed addresses.
     pub fn count_by_user(&self, user: UserId) -> usize
         ensures { result ≡ count_by (is_users user) self.now.entries }
     {
@@ -231,7 +246,7 @@ impl Slots {
         }
     }
 
-    /// Returns the least deadline of all allocations, or `None` if there are none.
+    /// Returns the least deadline of all relayed addresses, or `None` if there are none.
     pub fn next_deadline(&self) -> Option<u128>
         ensures some { IfSome result (λ due. ((slot : ℕ) × (e : _) × Holds self.now slot e
             × (e.deadline ≡ due)) × Each self.now (λ e. due ≤ e.deadline)) }
@@ -245,14 +260,15 @@ impl Slots {
         Some(least)
     }
 
-    /// Opens an allocation, and returns its slot. Its relay number is in the slot's entry.
+    /// Opens a relayed address, and returns its slot. Its number is in the slot's entry.
     ///
-    /// Returns `None`, and changes nothing, if no slot is free.
+    /// Returns `None`, and changes nothing, if no slot is free, or if 2^40 relayed addresses have been
+    /// opened: then no number is left, and `Slots` never opens another.
     ///
     /// # Requires
     ///
-    /// The client has no allocation, so that [`Slots::find_by_key`] returns `None`, and `deadline` is below
-    /// `u128::MAX`.
+    /// No relayed address has the key, so that [`Slots::find_by_key`] returns `None`, and `deadline` is
+    /// below `u128::MAX`.
     pub fn open(&mut self, key: RelayKey, user: UserId, deadline: u128) -> Option<usize>
         requires key { Each self.old (λ e. is_relay key e.key ≡ false) }
         requires deadline { deadline < never }
@@ -282,13 +298,25 @@ impl Slots {
         Some(slot)
     }
 
-    /// Gives the allocation in a slot another deadline.
+    /// Gives the relayed address in a slot another deadline.
     ///
     /// Returns `false`, and changes nothing, if the slot is free or not below the capacity.
     ///
     /// # Requires
     ///
     /// `deadline` is below `u128::MAX`.
+    ///
+    /// ```
+    /// use turn_slots::{RelayKey, Slots, UserId};
+    ///
+    /// let mut slots = Slots::new(alloc, 4, [1, 2])?;
+    /// let slot = slots.open(RelayKey::default(), UserId::default(), 600).unwrap_or(0);
+    /// assert!(rt; slots.set_deadline(slot, 900));
+    /// assert_eq!(rt; slots.next_deadline(), Some(900));
+    /// assert_eq!(rt; slots.end(slot).map(|entry| entry.deadline), Some(900));
+    /// assert!(rt; !slots.set_deadline(slot, 1000));
+    /// assert_eq!(rt; slots.next_deadline(), None);
+    /// ```
     pub fn set_deadline(&mut self, slot: usize, deadline: u128) -> bool
         requires { deadline < never }
         ensures { MatchOption (at_slot self.old slot) ((result ≡ false) × (self.new ≡ self.old))
@@ -306,7 +334,7 @@ impl Slots {
         true
     }
 
-    /// Ends the allocation in a slot, and returns it. The slot is free at once.
+    /// Ends the relayed address in a slot, and returns it. The slot is free at once.
     ///
     /// Returns `None`, and changes nothing, if the slot is free or not below the capacity.
     pub fn end(&mut self, slot: usize) -> Option<Entry>
@@ -328,9 +356,9 @@ impl Slots {
         Some(entry)
     }
 
-    /// Ends the allocation with a relay number, and returns it with its slot.
+    /// Ends the relayed address with a number, and returns it with its slot.
     ///
-    /// Returns `None`, and changes nothing, if no allocation has the number.
+    /// Returns `None`, and changes nothing, if no relayed address has the number.
     pub fn end_by_number(&mut self, number: u64) -> Option<(usize, Entry)>
         ensures some { IfSome result (λ ended. Ends (λ e. e.number ≡ number)
             ended.0 ended.1 self.old self.new) }
@@ -342,21 +370,19 @@ impl Slots {
         Some((slot, entry))
     }
 
-    /// Ends one of the user's allocations, and returns it with its slot. Call it until it returns `None`
-    /// to end them all.
+    /// Ends one of the user's relayed addresses, and returns it with its slot. Call it until it returns
+    /// `None` to end them all.
     ///
-    /// Returns `None`, and changes nothing, if the user has no allocations.
+    /// Returns `None`, and changes nothing, if the user has no relayed addresses.
     ///
     /// ```
-    /// use stun_endpoints::{Endpoint, FiveTuple};
-    /// use turn_slots::{Slots, UserId};
+    /// use turn_slots::{RelayKey, Slots, UserId};
     ///
     /// let mut slots = Slots::new(alloc, 4, [1, 2])?;
     /// let user = UserId::from([1; 32]);
-    /// for port in 1..4 {
-    ///     let client = Endpoint { port, ..Endpoint::default() };
-    ///     let tuple = FiveTuple { client, ..FiveTuple::default() };
-    ///     assert!(rt; slots.open(tuple, user, 600).is_some());
+    /// for family in 1..4 {
+    ///     let key = RelayKey { family, ..RelayKey::default() };
+    ///     assert!(rt; slots.open(key, user, 600).is_some());
     /// }
     /// assert_eq!(rt; (slots.len(), slots.count_by_user(user)), (3, 3));
     /// assert_eq!(rt; slots.count_by_user(UserId::default()), 0);
@@ -390,10 +416,24 @@ impl Slots {
         Some(self.deadlines.first())
     }
 
-    /// Ends an allocation whose deadline is the least of all and at most `now`, and returns it with its
+    /// Ends a relayed address whose deadline is the least of all and at most `now`, and returns it with its
     /// slot. Call it until it returns `None` to end all that are due.
     ///
     /// Returns `None`, and changes nothing, if every deadline is after `now`.
+    ///
+    /// ```
+    /// use turn_slots::{RelayKey, Slots, UserId};
+    ///
+    /// let mut slots = Slots::new(alloc, 4, [1, 2])?;
+    /// for (family, deadline) in [(1, 700), (2, 600)] {
+    ///     let key = RelayKey { family, ..RelayKey::default() };
+    ///     assert!(rt; slots.open(key, UserId::default(), deadline).is_some());
+    /// }
+    /// assert_eq!(rt; slots.next_deadline(), Some(600));
+    /// let ended = slots.end_due(800);
+    /// assert!(rt; ended.is_some_and(|(_slot, entry)| entry.key.family == 2));
+    /// assert_eq!(rt; slots.next_deadline(), Some(700));
+    /// ```
     pub fn end_due(&mut self, now: u128) -> Option<(usize, Entry)>
         ensures some { IfSome result (λ ended. Ends (λ e. (e.deadline ≤ now)
             × Each self.old (λ other. e.deadline ≤ other.deadline))

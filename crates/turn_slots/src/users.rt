@@ -1,9 +1,9 @@
-//! The user of an allocation.
+//! The user of a relayed address.
 
 ghost use Rattle.std.specs.Prelude.{◌≡◌, length};
 ghost use Rattle.turn_slots.specs.Users.{number_of};
 
-/// The user that an allocation belongs to: 256 bits that no other user has, such as the SHA-256 of the
+/// The user that a relayed address belongs to: 256 bits that no other user has, such as the SHA-256 of the
 /// user's name.
 ///
 /// ```

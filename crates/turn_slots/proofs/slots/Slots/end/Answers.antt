@@ -3,12 +3,12 @@ use Rattle.turn_slots.specs.declared.slots.Slots.TheInside.{Inside}
 use Rattle.turn_slots.specs.Deadlines.{never}
 use Rattle.turn_slots.specs.Tables.{IsTable}
 use Rattle.turn_slots.specs.Groups.{Partition}
-use Rattle.turn_slots.proofs.ChangesLemmas.{found_at, client_of, user_of, place_low, ended_table}
+use Rattle.turn_slots.proofs.ChangesLemmas.{found_at, key_of, user_of, place_low, ended_table}
 use Rattle.turn_slots.proofs.slots.Slots.end.Goals as goal
 use Rattle.turn_slots.proofs.slots.Slots.end.Goals.{then-count-eq0, else-count-eq0}
 
 pub remove-requires : goal.remove-requires
-remove-requires c = client_of c.self.inside.round c.self.inside.entries.items c.self.inside.keys.1 c.self.inside.users.1 c.self.inside.holders c.self.inside.deadlines c.self.invariant.table c.args.slot c.in-Some-Some.entry (found_at c.self.inside.entries.items c.deref.result.now c.args.slot c.in-Some-Some.field-0.now c.in-Some-Some.entry c.deref.ensures.value (c.in-Some-Some.ensures.lookup).0 (c.in-Some-Some.ensures.lookup).1 c.in-Some-Some.field-0-is)
+remove-requires c = key_of c.self.inside.round c.self.inside.entries.items c.self.inside.keys.1 c.self.inside.users.1 c.self.inside.holders c.self.inside.deadlines c.self.invariant.table c.args.slot c.in-Some-Some.entry (found_at c.self.inside.entries.items c.deref.result.now c.args.slot c.in-Some-Some.field-0.now c.in-Some-Some.entry c.deref.ensures.value (c.in-Some-Some.ensures.lookup).0 (c.in-Some-Some.ensures.lookup).1 c.in-Some-Some.field-0-is)
 
 pub move_to-requires-clause-other : goal.move_to-requires-clause-other
 move_to-requires-clause-other c = λ e.
