@@ -129,13 +129,6 @@ drop_passes test peers at d some within is =
     let cut : drop (at - 1) peers ≡ get_or peers (at - 1) d ∷ drop (at - 1 + 1) peers = drop_more peers (at - 1) d (omega (arith, some, within)) in
     rw (cut, here) (cond-true (test (get_or peers (at - 1) d)) (get_or peers (at - 1) d ∷ filter test (drop at peers)) (filter test (drop at peers)) is)
 
-pub drop_fails : (test : Endpoint → Bool) (peers : List Endpoint) (at : ℕ) (d : Endpoint) → 0 < at → at ≤ length peers → test (get_or peers (at - 1) d) ≡ false
-    → filter test (drop (at - 1) peers) ≡ filter test (drop at peers)
-drop_fails test peers at d some within isnt =
-    let here : at - 1 + 1 ≡ at = omega (arith, some) in
-    let cut : drop (at - 1) peers ≡ get_or peers (at - 1) d ∷ drop (at - 1 + 1) peers = drop_more peers (at - 1) d (omega (arith, some, within)) in
-    rw (cut, here) (cond-false (test (get_or peers (at - 1) d)) (get_or peers (at - 1) d ∷ filter test (drop at peers)) (filter test (drop at peers)) isnt)
-
 pub full_stays : (P now : ℕ) (test : Endpoint → Bool) (peers : List Endpoint) (k : ℕ) (y : Endpoint) (ys : List Endpoint) (ps : List Permission) → AreDistinct ps
     → filter test (drop k peers) ≡ y ∷ ys → P < length (with_permissions now (y ∷ ys) ps) → P < length (with_permissions now (filter test peers) ps)
 full_stays P now test peers k y ys ps apart is full =

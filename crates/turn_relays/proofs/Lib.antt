@@ -1,3 +1,4 @@
-pub mod NewestLemmas
+mod NewestLemmas
 mod SlotsLemmas
 mod DistinctLemmas
+mod FollowingLemmas

@@ -2,3 +2,4 @@ pub mod Newest
 pub mod Relayed
 pub mod Tables
 pub mod Granted
+pub mod Following

@@ -10,7 +10,9 @@
 mod binding;
 mod granting;
 mod kept;
+mod laws;
 mod permitting;
 mod relays;
 
+pub use laws::list_follows_slots;
 pub use relays::Relays;
