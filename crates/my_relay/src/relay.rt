@@ -142,9 +142,10 @@ impl<'a, S: Drop> Relay<'a, S> {
                     self.keep(opened)?;
                 }
                 let written = response.written?;
-                Ok(buffer
-                    .get(..written)
-                    .map_or(Sending::Nothing, Sending::ToClient))
+                match buffer.get(..written) {
+                    Some(bytes) => Ok(Sending::ToClient(bytes)),
+                    None => Ok(Sending::Nothing),
+                }
             }
             Action::ToPeer { relay, peer, data } => {
                 match (self.sockets.get(&relay), data.of(datagram)) {
