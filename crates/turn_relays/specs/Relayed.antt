@@ -1,5 +1,6 @@
 -- The relayed addresses in slots, and the state of the machine that they are (RFC 8656, sections 6, 9 and 12).
-use Rattle.std.specs.Prelude.{◌≡◌, ◌⊎◌, ℕ, ◌+◌, ◌<◌, ◌≤◌, List, [], ◌∷◌, Option, None, Some, length, slice_index_or, slice_set}
+use Rattle.std.specs.Prelude.{◌≡◌, ◌⊎◌, ℕ, ◌+◌, ◌<◌, ◌≤◌, List, [], ◌∷◌, filter, ◌==◌, Option, None, Some, length, slice_index_or, slice_set}
+use Rattle.std.specs.Option.{option_map_or}
 use Rattle.stun_endpoints.specs.declared.endpoints.Endpoint.{Endpoint}
 use Rattle.turn_slots.specs.declared.relay_key.RelayKey.{RelayKey}
 use Rattle.turn_slots.specs.declared.slots.Entry.{Entry}
@@ -9,6 +10,7 @@ use Rattle.turn_slots.specs.declared.hashing.Secret.{Secret}
 use Rattle.turn_machine.specs.declared.grants.Permission.{Permission}
 use Rattle.turn_machine.specs.declared.grants.Channel.{Channel}
 use Rattle.turn_machine.specs.Relays.{Relay, State}
+use Rattle.turn_machine.specs.Rows.{with_permissions}
 use Rattle.turn_relays.specs.Newest.{newest_first}
 
 -- what is kept of a relayed address besides its entry in the slots
@@ -24,6 +26,12 @@ new_grants opened_by address = record {
   address = address;
   permissions = [];
   channels = [];
+}
+
+-- with permissions for the peers of a family
+abbrev pub permitted : (now family : ℕ) → List Endpoint → Grants → Grants
+permitted now family peers g = record g {
+  permissions = with_permissions now (filter (λ peer. peer.ip.family == family) peers) g.permissions;
 }
 
 -- what a relayed address has besides
@@ -94,6 +102,11 @@ Each t P = (slot : ℕ) (r : Relay) → Holds t slot r → P r
 -- a slot gets a relayed address, or none, and nothing else changes
 abbrev pub with_slot : (slot : ℕ) → Option Relay → Table → Table
 with_slot slot r t = record t { slots = slice_set t.slots slot r }
+
+-- the relayed address in a slot is changed, if there is one
+abbrev pub changed_slot : (slot : ℕ) → (Relay → Relay) → Table → Table
+changed_slot slot change t =
+    option_map_or (λ r. with_slot slot (Some (change r)) t) (at_slot t slot) t
 
 -- no slot is free, or there have been as many openings as there can be
 abbrev pub IsClosed : Table → Type 0

@@ -1,11 +1,12 @@
 //! What a relayed address grants, by its slot.
 
-ghost use Rattle.std.specs.Prelude.{◌≡◌, ◌&&◌, None, Some, false, find, length, nat_lt, option_copied, option_map, slice_index_or};
+ghost use Rattle.std.specs.Prelude.{◌≡◌, ◌&&◌, ◌+◌, ◌<◌, ◌≤◌, ◌^◌, None, Some, false, find, length, nat_lt, option_copied, option_map, slice_index_or};
 ghost use Rattle.std.specs.List.{list_any};
 ghost use Rattle.std.specs.Option.{option_map_or};
-ghost use Rattle.turn_machine.specs.Relays.{is_permitted, is_channel, is_channel_of};
+ghost use Rattle.turn_machine.specs.Relays.{seconds, is_permitted, is_channel, is_channel_of};
 ghost use Rattle.turn_machine.specs.Rows.{permissions_after, with_channel, clashes};
-ghost use Rattle.turn_relays.specs.Relayed.{at_slot};
+ghost use Rattle.turn_machine.specs.Steps.{permitting};
+ghost use Rattle.turn_relays.specs.Relayed.{at_slot, changed_slot, permitted};
 
 use crate::kept::Kept;
 use crate::relays::Relays;
@@ -32,6 +33,24 @@ fn family_at(entries: &[Option<Entry>], slot: usize) -> u8
     match entries.get(slot) {
         Some(Some(entry)) => entry.key.family,
         _ => 0,
+    }
+}
+
+/// Inserts permissions in what is kept beside a slot.
+fn permit_in<const P: usize, const C: usize>(
+    kept: &mut Option<Kept<P, C>>,
+    now: u128,
+    family: u8,
+    peers: &[Endpoint],
+)
+    requires time { now + seconds 300 < 2 ^ 128 }
+    requires room { option_map_or (λ g. length (permitted now family peers.now g).permissions)
+        kept.old 0 ≤ P }
+    ensures { kept.new ≡ option_map (permitted now family peers.now) kept.old }
+{
+    match kept {
+        Some(kept) => kept.permit(now, family, peers),
+        None => {}
     }
 }
 
@@ -99,6 +118,23 @@ impl<const P: usize, const C: usize> Relays<P, C> {
         match kept_at(&self.kept, slot) {
             Some(kept) => kept.lacks_permissions(self.clock, family, peers),
             None => false,
+        }
+    }
+
+    /// Inserts permissions for the peers of the family of the relayed address in a slot, and removes those
+    /// that have expired (RFC 8656, section 9). Changes nothing if the slot is free.
+    ///
+    /// # Requires
+    ///
+    /// There is room for all: [`Relays::lacks_permissions`] returns `false`.
+    pub fn permit(&mut self, slot: usize, peers: &[Endpoint])
+        requires { option_map_or (λ r. length (permissions_after self.old.clock peers.now r))
+            (at_slot self.old slot) 0 ≤ P }
+        ensures { self.new ≡ changed_slot slot (permitting self.old.clock peers.now) self.old }
+    {
+        let family = family_at(self.slots.entries(), slot);
+        if slot < self.kept.len() {
+            permit_in(&mut self.kept[slot], self.clock, family, peers);
         }
     }
 }
