@@ -376,13 +376,15 @@ impl Slots {
     /// Returns `None`, and changes nothing, if the user has no relayed addresses.
     ///
     /// ```
+    /// use stun_endpoints::{Endpoint, FiveTuple};
     /// use turn_slots::{RelayKey, Slots, UserId};
     ///
     /// let mut slots = Slots::new(alloc, 4, [1, 2])?;
     /// let user = UserId::from([1; 32]);
-    /// for family in 1..4 {
-    ///     let key = RelayKey { family, ..RelayKey::default() };
-    ///     assert!(rt; slots.open(key, user, 600).is_some());
+    /// for port in 1..4 {
+    ///     let client = Endpoint { port, ..Endpoint::default() };
+    ///     let tuple = FiveTuple { client, ..FiveTuple::default() };
+    ///     assert!(rt; slots.open(RelayKey { tuple, family: 1 }, user, 600).is_some());
     /// }
     /// assert_eq!(rt; (slots.len(), slots.count_by_user(user)), (3, 3));
     /// assert_eq!(rt; slots.count_by_user(UserId::default()), 0);
