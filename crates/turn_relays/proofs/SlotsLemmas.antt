@@ -385,28 +385,6 @@ relays_kept (x ∷ es) [] slot e g size at = absurd (omega (arith, size))
 relays_kept (x ∷ es) (k ∷ ks) zero e g size at = ap (λ (o : Option Entry). joined o (Some g) ∷ relays_in es ks) at
 relays_kept (x ∷ es) (k ∷ ks) (suc slot) e g size at = ap (λ (rs : List (Option Relay)). joined x k ∷ rs) (relays_kept es ks slot e g (omega (arith, size)) at)
 
--- as much is kept, and beside the same slots
-kept_same : (ks : List (Option Grants)) (slot : ℕ) (k : Option Grants) → is_some k ≡ is_some (get_or ks slot None) → (i : ℕ) → is_some (get_or (set ks slot k) i None) ≡ is_some (get_or ks i None)
-kept_same [] slot k same i = refl
-kept_same (x ∷ ks) zero k same zero = same
-kept_same (x ∷ ks) zero k same (suc i) = refl
-kept_same (x ∷ ks) (suc slot) k same zero = refl
-kept_same (x ∷ ks) (suc slot) k same (suc i) = kept_same ks slot k same i
-
-map_some : (f : Grants → Grants) (o : Option Grants) → is_some (option_map f o) ≡ is_some o
-map_some f None = refl
-map_some f (Some g) = refl
-
-pub kept_table : (next : ℕ) (s : State) (ks : List (Option Grants)) → IsTable next s ks → (slot : ℕ) (f : Grants → Grants) (k : Option Grants) → k ≡ option_map f (get_or ks slot None) → IsTable next s (set ks slot k)
-kept_table next s ks t slot f k is = record {
-  few = t.few;
-  size = length-set ks slot k ∙ t.size;
-  beside = λ i. t.beside i ∙ sym (kept_same ks slot k (ap is_some is ∙ map_some f (get_or ks slot None)) i);
-  fresh = t.fresh;
-  below = t.below;
-  users = t.users;
-}
-
 pub kept_none : (es : List (Option Entry)) (ks : List (Option Grants)) → ((i : ℕ) → is_some (get_or es i None) ≡ is_some (get_or ks i None)) → (slot : ℕ) (f : Grants → Grants) (k : Option Grants) → k ≡ option_map f (get_or ks slot None)
     → get_or (relays_in es ks) slot None ≡ None → set ks slot k ≡ ks
 kept_none es ks beside slot f k is none =
