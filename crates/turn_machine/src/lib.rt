@@ -50,8 +50,6 @@
 
 mod grants;
 
-pub use grants::{Channel, Permission};
-
 ghost use Rattle.std.specs.Prelude.{◌≡◌, ◌↔◌, ◌&&◌, ◌<◌, ◌≤◌, ◌⊎◌, ◌*◌, ◌+◌, ◌==◌, ℕ, Bool, List, [], ◌∷◌, ◌++◌, length, map, count_by, filter, not, nat_lt, max, min, Option, None, Some, true, false, if◌then◌else◌};
 ghost use Rattle.std.specs.List.{AllByRecursion};
 ghost use Rattle.turn_machine.specs.Lists.{times};
@@ -79,6 +77,8 @@ ghost use Rattle.turn_machine.specs.Edges.{outputs_of, expected_of, plain_setup,
 ghost use Rattle.turn_machine.specs.FlowCases.{flow_cases};
 ghost use Rattle.turn_machine.specs.Bounds.{IsWithin};
 ghost use Rattle.turn_machine.specs.Numbers.{all_closed, kept_times, Gives, IsGiven};
+
+pub use grants::{Channel, Permission};
 
 /// After any events in any order, all that the state has is live, so what has ended takes no place. Each
 /// number that a client was given is either that of a live relayed address or was reported as closed, once
