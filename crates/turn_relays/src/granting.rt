@@ -55,7 +55,8 @@ fn permit_in<const P: usize, const C: usize>(
 }
 
 impl<const P: usize, const C: usize> Relays<P, C> {
-    /// Whether the relayed address in a slot has a permission for an IP address (RFC 8656, section 9).
+    /// Whether the relayed address in a slot has a permission for an IP address that hasn't expired (RFC
+    /// 8656, section 9). `false` if the slot is free or not below the capacity.
     pub fn is_permitted(&self, slot: usize, ip: Ip) -> bool
         ensures { result ≡ option_map_or (is_permitted self.now.clock ip) (at_slot self.now slot) false }
     {
@@ -65,7 +66,11 @@ impl<const P: usize, const C: usize> Relays<P, C> {
         }
     }
 
-    /// The peer that a channel of the relayed address in a slot is bound to (RFC 8656, section 12.6).
+    /// Returns the peer that a channel of the relayed address in a slot is bound to (RFC 8656, section
+    /// 12.6).
+    ///
+    /// Returns `None` if the number is not bound, or its binding has expired, or the slot is free or not
+    /// below the capacity.
     pub fn peer_on(&self, slot: usize, number: u16) -> Option<Endpoint>
         ensures { result ≡ option_map_or
             (λ r. option_map (λ c. c.peer) (find (is_channel self.now.clock number) r.channels))
@@ -74,7 +79,11 @@ impl<const P: usize, const C: usize> Relays<P, C> {
         kept_at(&self.kept, slot)?.peer_on(self.clock, number)
     }
 
-    /// The channel of the relayed address in a slot that is bound to a peer (RFC 8656, section 12.7).
+    /// Returns the number of the channel of the relayed address in a slot that is bound to a peer, by its
+    /// IP address and port (RFC 8656, section 12.7).
+    ///
+    /// Returns `None` if no channel is bound to the peer, or the binding has expired, or the slot is free or
+    /// not below the capacity.
     pub fn channel_to(&self, slot: usize, peer: Endpoint) -> Option<u16>
         ensures { result ≡ option_map_or
             (λ r. option_map (λ c. c.number) (find (is_channel_of self.now.clock peer) r.channels))
@@ -83,8 +92,8 @@ impl<const P: usize, const C: usize> Relays<P, C> {
         kept_at(&self.kept, slot)?.channel_to(self.clock, peer)
     }
 
-    /// Whether a channel number or a peer is bound otherwise in the relayed address in a slot (RFC 8656,
-    /// section 12.2).
+    /// Whether, in the relayed address in a slot, the channel number is bound to another peer, or the peer
+    /// to another number (RFC 8656, section 12.2). `false` if the slot is free or not below the capacity.
     pub fn clashes(&self, slot: usize, number: u16, peer: Endpoint) -> bool
         ensures { result ≡ option_map_or
             (λ r. list_any (clashes self.now.clock number peer) r.channels)
@@ -96,7 +105,8 @@ impl<const P: usize, const C: usize> Relays<P, C> {
         }
     }
 
-    /// Whether the relayed address in a slot has no room for one more channel.
+    /// Whether the relayed address in a slot has no room for a channel: `C` others are bound that haven't
+    /// expired. `false` if the slot is free or not below the capacity.
     pub fn lacks_channel(&self, slot: usize, number: u16, peer: Endpoint) -> bool
         ensures { result ≡ option_map_or
             (λ r. nat_lt C (length (with_channel self.now.clock number peer r.channels)))
@@ -108,7 +118,9 @@ impl<const P: usize, const C: usize> Relays<P, C> {
         }
     }
 
-    /// Whether the relayed address in a slot has no room for permissions for all peers of its family.
+    /// Whether the relayed address in a slot has no room for permissions for all peers of its family: more
+    /// than `P`, with those that it has and that haven't expired. `false` if the slot is free or not below
+    /// the capacity.
     pub fn lacks_permissions(&self, slot: usize, peers: &[Endpoint]) -> bool
         ensures { result ≡ option_map_or
             (λ r. nat_lt P (length (permissions_after self.now.clock peers.now r)))
@@ -121,8 +133,9 @@ impl<const P: usize, const C: usize> Relays<P, C> {
         }
     }
 
-    /// Inserts permissions for the peers of the family of the relayed address in a slot, and removes those
-    /// that have expired (RFC 8656, section 9). Changes nothing if the slot is free.
+    /// Inserts permissions of 300 seconds for the peers of the family of the relayed address in a slot (RFC
+    /// 8656, section 9). With the first, those that have expired are removed. Changes nothing if the slot is
+    /// free or not below the capacity.
     ///
     /// # Requires
     ///
