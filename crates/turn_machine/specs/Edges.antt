@@ -31,6 +31,7 @@ plain_setup = record {
   has_family = λ f. (f == 1) || (f == 2);
   supports_dont_fragment = false;
   passes_icmp = false;
+  channel_permits = false;
 }
 
 -- All IP addresses are allowed but number 66, and all ports but 99
