@@ -57,7 +57,7 @@ ghost use Rattle.stun_endpoints.specs.declared.endpoints.Ip.{Ip};
 ghost use Rattle.stun_endpoints.specs.declared.endpoints.Endpoint.{Endpoint};
 ghost use Rattle.stun_endpoints.specs.declared.endpoints.FiveTuple.{FiveTuple};
 ghost use Rattle.stun_endpoints.specs.Endpoints.{is_ip, is_endpoint, is_tuple};
-ghost use Rattle.turn_machine.specs.Relays.{seconds, Channel, Relay, Setup, Rules, State};
+ghost use Rattle.turn_machine.specs.Relays.{seconds, Channel, Relay, Setup, bound_for, Rules, State};
 ghost use Rattle.turn_machine.specs.Events.{Event, ticks, Icmp, Offer, Want, sends, sends_on, bounces, to_peer, to_client, to_client_on, to_client_icmp, allocate, refresh, permit, bind, unfit, permit_request, asks, arrives, allocated, refused, answers, nothing};
 ghost use Rattle.turn_machine.specs.Times.{at, over_at, granted_for, refreshed_for};
 ghost use Rattle.turn_machine.specs.Steps.{step};
@@ -187,15 +187,16 @@ pub fn fit_is_granted()
     ensures bound { (setup : Setup) (rules : Rules) (state : State) (now : ℕ) (tuple : FiveTuple)
         (user number : ℕ) (peer : Endpoint)
         → CanBind setup rules tuple user number peer (at now state)
-        → IsBound tuple number peer (at now state)
+        → IsBound setup tuple number peer (at now state)
         (step setup rules state now (asks tuple user (bind number peer))) }
     ensures again { (setup : Setup) (rules : Rules) (events : List Timed) (now : ℕ)
         (tuple : FiveTuple) (user id : ℕ) (lifetime : Option ℕ) (wants : List Want)
         → let s = at now (run setup events) in IsAgain tuple user id s
         → IsRepeated setup tuple wants s (step setup rules (run setup events) now
         (asks tuple user (allocate id lifetime wants))) }
-    ensures lifetimes { (wanted greatest : ℕ)
+    ensures lifetimes { (setup : Setup) (wanted greatest : ℕ)
         → (seconds wanted ≡ wanted * 1_000_000_000)
+        × (bound_for setup ≡ if setup.channel_permits then 600 else 300)
         × (granted_for None greatest ≡ 600) × (refreshed_for None greatest ≡ 600)
         × (granted_for (Some wanted) greatest ≡ max 600 (min wanted greatest))
         × (refreshed_for (Some 0) greatest ≡ 0)
@@ -296,7 +297,7 @@ pub fn what_is_permitted_works()
     ensures out { (setup : Setup) (earlier : List Timed) (now : ℕ) (rules : Rules)
         (tuple : FiveTuple) (number : ℕ) (peer : Endpoint) (dont_fragment : Bool) (bytes : List ℕ)
         → let moment = (at now (run setup earlier)).clock in
-        IsDue (history setup earlier) moment tuple number peer (ArePermitting tuple peer moment)
+        IsDue (history setup earlier) moment tuple number peer (ArePermitting setup tuple peer moment)
         → (rules.allows_ip peer.ip && rules.allows_port peer) ≡ true
         → (dont_fragment ≡ true → setup.supports_dont_fragment ≡ true)
         → output_of setup earlier now rules (sends tuple peer dont_fragment bytes)
@@ -312,13 +313,13 @@ pub fn what_is_permitted_works()
     ensures back { (setup : Setup) (earlier : List Timed) (now : ℕ) (rules : Rules)
         (tuple : FiveTuple) (number : ℕ) (peer : Endpoint) (bytes : List ℕ)
         → let moment = (at now (run setup earlier)).clock in
-        IsDue (history setup earlier) moment tuple number peer (ArePermitting tuple peer moment)
+        IsDue (history setup earlier) moment tuple number peer (ArePermitting setup tuple peer moment)
         → rules.allows_ip peer.ip ≡ true
         → Reaches tuple peer bytes (output_of setup earlier now rules (arrives number peer bytes)) }
     ensures news { (setup : Setup) (earlier : List Timed) (now : ℕ) (rules : Rules)
         (tuple : FiveTuple) (number : ℕ) (peer : Endpoint) (icmp : Icmp)
         → let moment = (at now (run setup earlier)).clock in
-        IsDue (history setup earlier) moment tuple number peer (ArePermitting tuple peer moment)
+        IsDue (history setup earlier) moment tuple number peer (ArePermitting setup tuple peer moment)
         → rules.allows_ip peer.ip ≡ true → setup.passes_icmp ≡ true
         → is_reported peer.ip.family icmp.type_number ≡ true
         → output_of setup earlier now rules (bounces number peer icmp)
@@ -332,7 +333,7 @@ pub fn bound_channels_are_used()
         (tuple : FiveTuple) (number : ℕ) (peer : Endpoint) (channel : ℕ) (bytes : List ℕ)
         → let moment = (at now (run setup earlier)).clock in
         IsDue (history setup earlier) moment tuple number peer
-        (λ user since. ArePermitting tuple peer moment user since
+        (λ user since. ArePermitting setup tuple peer moment user since
         × AreBinding tuple channel peer moment user since)
         → rules.allows_ip peer.ip ≡ true
         → output_of setup earlier now rules (arrives number peer bytes)
@@ -340,7 +341,7 @@ pub fn bound_channels_are_used()
     ensures unbound { (setup : Setup) (earlier : List Timed) (now : ℕ) (rules : Rules)
         (tuple : FiveTuple) (number : ℕ) (peer : Endpoint) (bytes : List ℕ)
         → let moment = (at now (run setup earlier)).clock in
-        IsDue (history setup earlier) moment tuple number peer (ArePermitting tuple peer moment)
+        IsDue (history setup earlier) moment tuple number peer (ArePermitting setup tuple peer moment)
         → ¬ (IsBoundTo tuple peer moment (history setup earlier)) → rules.allows_ip peer.ip ≡ true
         → output_of setup earlier now rules (arrives number peer bytes)
         ≡ to_client tuple peer bytes }
