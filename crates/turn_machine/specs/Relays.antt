@@ -29,8 +29,8 @@ pub record Relay : Type 0 where
 -- Set once, by the caller: the most relayed addresses, in all and for one user; the most
 -- permissions and channels of each; the greatest lifetime, in seconds; the last channel number,
 -- which is 0x4FFF, or 0x7FFF to serve clients of RFC 5766; the families that the server supports;
--- whether it can set the DF bit, whether it relays ICMP, and whether the permission that a ChannelBind
--- request installs lasts as long as its channel
+-- whether it can set the DF bit, whether it relays ICMP, and whether the permission of a ChannelBind
+-- request lasts as long as the channel
 pub record Setup : Type 0 where
   pub most_relays : ℕ
   pub most_of_user : ℕ
@@ -43,8 +43,8 @@ pub record Setup : Type 0 where
   pub passes_icmp : Bool
   pub channel_permits : Bool
 
--- How many seconds the permission lasts that a ChannelBind request installs (9 and 12): 300, or, as a
--- departure from the RFC, as many as the channel
+-- How many seconds the permission of a ChannelBind request lasts: 300 (9); or as long as the channel,
+-- which departs from the RFC
 abbrev pub bound_for : Setup → ℕ
 bound_for setup = if setup.channel_permits then 600 else 300
 

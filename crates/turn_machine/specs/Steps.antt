@@ -45,7 +45,7 @@ lasting family until a = if is_wanted family a then record a { until = until } e
 abbrev pub permitting : ℕ → List Endpoint → Relay → Relay
 permitting now peers a = record a { permissions = permissions_after now peers a }
 
--- the permission's lifetime in seconds
+-- a channel, and a permission for so many seconds (12.2)
 abbrev pub binding : (lifetime now number : ℕ) → Endpoint → Relay → Relay
 binding lifetime now number peer a =
     if peer.ip.family == a.family then record a {

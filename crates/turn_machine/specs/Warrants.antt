@@ -109,9 +109,9 @@ pub record Renews (tuple : FiveTuple) (user : ℕ) (ip : Ip) (h : Happening) : T
   pub named : names ip (permit peers) ≡ true
   pub succeeded : h.output ≡ answers tuple done
 
--- The peer is permitted: by a request within the last 300 seconds; or, if channels permit as long as
--- they last, by a ChannelBind request, unless a CreatePermission request has come since, from which on
--- the 300 seconds count
+-- Within the last 300 seconds a request named the peer's IP address. Or, if channels permit as long as
+-- they last, one bound a channel to a peer with this IP address within the last 600, and no
+-- CreatePermission request has named the address since
 abbrev pub ArePermitting : Setup → FiveTuple → Endpoint → (now user : ℕ) → List Happening → Type 0
 ArePermitting setup tuple peer now user since =
     SomeOf (Permits tuple user peer.ip now) since
