@@ -8,7 +8,7 @@ use Rattle.stun_endpoints.specs.declared.endpoints.Endpoint.{Endpoint}
 use Rattle.stun_endpoints.specs.declared.endpoints.FiveTuple.{FiveTuple}
 use Rattle.stun_endpoints.specs.Endpoints.{is_tuple}
 use Rattle.turn_machine.specs.Lists.{SomeOf}
-use Rattle.turn_machine.specs.Relays.{seconds, Channel, Relay, Setup, Rules, State, is_live, is_of, is_for, is_users, is_owned, is_at, is_permitted, is_channel, is_channel_of}
+use Rattle.turn_machine.specs.Relays.{seconds, Channel, Relay, Setup, Rules, State, is_live, is_of, is_for, is_users, is_owned, is_at, is_permitted, is_channel, is_channel_of, bound_for}
 use Rattle.turn_machine.specs.Events.{Want, Given, Request, allocate, unfit_allocate, refresh, permit, bind, unfit, Event, asks, sends, sends_on, arrives, bounces, ends, ends_user, ticks, allocated, refreshed, Output, answers}
 use Rattle.turn_machine.specs.Times.{at, granted_for, refreshed_for}
 use Rattle.turn_machine.specs.Opening.{opened, opens, given_to, missing_to}
@@ -185,7 +185,7 @@ fulfil_same setup tuple user (allocate id lifetime wants) c n m one other isnt s
 fulfil_same setup tuple user (unfit_allocate code) c n m one other isnt same = record { output = refl; part = same }
 fulfil_same setup tuple user (refresh family lifetime) c n m one other isnt same = refresh_same tuple user (refreshed_for lifetime setup.greatest_lifetime) family c n m one other same
 fulfil_same setup tuple user (permit peers) c n m one other isnt same = record { output = refl; part = changed_part tuple tuple user (permitting c peers) c n m one other (λ _. refl) same }
-fulfil_same setup tuple user (bind number peer) c n m one other isnt same = record { output = refl; part = changed_part tuple tuple user (binding c number peer) c n m one other (binding_same (λ b. b.tuple) c number peer (λ _. refl)) same }
+fulfil_same setup tuple user (bind number peer) c n m one other isnt same = record { output = refl; part = changed_part tuple tuple user (binding (bound_for setup) c number peer) c n m one other (binding_same (λ b. b.tuple) (bound_for setup) c number peer (λ _. refl)) same }
 fulfil_same setup tuple user (unfit code) c n m one other isnt same = record { output = refl; part = same }
 
 never_again : (tuple : FiveTuple) (user : ℕ) (request : Request) (state : State) → is_allocate (asks tuple user request) ≡ false → is_again tuple user request state ≡ false
@@ -396,7 +396,7 @@ fulfil_leaves setup tuple other user (refresh family lifetime) s apart =
     (λ _. filter_keeps (is_of tuple) (λ a. not (test a)) s.relays (each_always (λ a. is_of tuple a ≡ true → not (test a) ≡ true) (λ a is. ap not (left_false (is_owned other user a) (is_wanted family a) (theirs tuple other user a apart is))) s.relays))
     (λ _. changed_leaves tuple other user change s (lasting_same (λ b. b.tuple) family (s.clock + seconds granted) (λ _. refl)) apart)
 fulfil_leaves setup tuple other user (permit peers) s apart = changed_leaves tuple other user (permitting s.clock peers) s (λ _. refl) apart
-fulfil_leaves setup tuple other user (bind number peer) s apart = changed_leaves tuple other user (binding s.clock number peer) s (binding_same (λ b. b.tuple) s.clock number peer (λ _. refl)) apart
+fulfil_leaves setup tuple other user (bind number peer) s apart = changed_leaves tuple other user (binding (bound_for setup) s.clock number peer) s (binding_same (λ b. b.tuple) (bound_for setup) s.clock number peer (λ _. refl)) apart
 fulfil_leaves setup tuple other user (unfit code) s apart = refl
 
 -- a kept address of the client has a number that it got, and a user that asked
@@ -409,27 +409,27 @@ some_number n family number [] some same = absurd some
 some_number n family number (g ∷ given) (inl is) same = or_left (g.number == n) (list_any (λ x. x.number == n) given) (eq-eqb g.number n (is.1 ∙ same))
 some_number n family number (g ∷ given) (inr more) same = or_right (g.number == n) (list_any (λ x. x.number == n) given) (some_number n family number given more same)
 
-got : (tuple : FiveTuple) (n : ℕ) (hs : List Happening) (a : Relay) → IsBacked hs a → is_of tuple a ≡ true → is_at n a ≡ true → has_got tuple n hs ≡ true
-got tuple n hs a b of at_it =
+got : (setup : Setup) (tuple : FiveTuple) (n : ℕ) (hs : List Happening) (a : Relay) → IsBacked setup hs a → is_of tuple a ≡ true → is_at n a ≡ true → has_got tuple n hs ≡ true
+got setup tuple n hs a b of at_it =
     subst (λ (l : List Happening). has_got tuple n l ≡ true) (sym b.split)
     (within_any (λ h. gives_to tuple n h.output) b.since b.opening b.before
     (ap (λ (o : Output). gives_to tuple n o) b.opens.answered ∙ and_from (is_tuple tuple a.tuple) (list_any (λ g. g.number == n) b.opens.given) of (some_number n a.family a.number b.opens.given b.opens.has (eqb-true a.number n at_it))))
 
-asked_it : (tuple : FiveTuple) (user : ℕ) (hs : List Happening) (a : Relay) → IsBacked hs a → is_of tuple a ≡ true → is_users user a ≡ true → has_asked tuple user hs ≡ true
-asked_it tuple user hs a b of mine =
+asked_it : (setup : Setup) (tuple : FiveTuple) (user : ℕ) (hs : List Happening) (a : Relay) → IsBacked setup hs a → is_of tuple a ≡ true → is_users user a ≡ true → has_asked tuple user hs ≡ true
+asked_it setup tuple user hs a b of mine =
     subst (λ (l : List Happening). has_asked tuple user l ≡ true) (sym b.split)
     (within_any (λ h. is_asked_as tuple user h.event) b.since b.opening b.before (ap (λ (e : Event). is_asked_as tuple user e) b.opens.asked ∙ and_from (is_tuple tuple a.tuple) (a.user == user) of mine))
 
-event_leaves : (setup : Setup) (rules : Rules) (tuple : FiveTuple) (hs : List Happening) (event : Event) (s : State) → AllByRecursion (IsBacked hs) s.relays → is_own tuple hs event ≡ false → Leaves tuple s (happens setup rules s event)
+event_leaves : (setup : Setup) (rules : Rules) (tuple : FiveTuple) (hs : List Happening) (event : Event) (s : State) → AllByRecursion (IsBacked setup hs) s.relays → is_own tuple hs event ≡ false → Leaves tuple s (happens setup rules s event)
 event_leaves setup rules tuple hs (asks other user request) s backed isnt = serve_cases setup rules other user request s (Leaves tuple s) (λ _ _ _. refl) (λ _. refl) (λ _ _. fulfil_leaves setup tuple other user request s isnt)
 event_leaves setup rules tuple hs (sends other peer dont_fragment bytes) s backed isnt = refl
 event_leaves setup rules tuple hs (sends_on other channel bytes) s backed isnt = refl
 event_leaves setup rules tuple hs (arrives number peer bytes) s backed isnt = refl
 event_leaves setup rules tuple hs (bounces number peer icmp) s backed isnt = refl
 event_leaves setup rules tuple hs (ends number) s backed isnt =
-    filter_keeps (is_of tuple) (λ a. not (is_at number a)) s.relays (each_map (IsBacked hs) (λ a. is_of tuple a ≡ true → not (is_at number a) ≡ true) (λ a b of. ap not (not_true (is_at number a) (λ it. false≢true (sym isnt ∙ got tuple number hs a b of it)))) s.relays backed)
+    filter_keeps (is_of tuple) (λ a. not (is_at number a)) s.relays (each_map (IsBacked setup hs) (λ a. is_of tuple a ≡ true → not (is_at number a) ≡ true) (λ a b of. ap not (not_true (is_at number a) (λ it. false≢true (sym isnt ∙ got setup tuple number hs a b of it)))) s.relays backed)
 event_leaves setup rules tuple hs (ends_user user) s backed isnt =
-    filter_keeps (is_of tuple) (λ a. not (is_users user a)) s.relays (each_map (IsBacked hs) (λ a. is_of tuple a ≡ true → not (is_users user a) ≡ true) (λ a b of. ap not (not_true (is_users user a) (λ it. false≢true (sym isnt ∙ asked_it tuple user hs a b of it)))) s.relays backed)
+    filter_keeps (is_of tuple) (λ a. not (is_users user a)) s.relays (each_map (IsBacked setup hs) (λ a. is_of tuple a ≡ true → not (is_users user a) ≡ true) (λ a b of. ap not (not_true (is_users user a) (λ it. false≢true (sym isnt ∙ asked_it setup tuple user hs a b of it)))) s.relays backed)
 event_leaves setup rules tuple hs ticks s backed isnt = refl
 
 -- ---- Two runs
@@ -445,7 +445,7 @@ left_same setup tuple events t other isnt same m le le_too =
     let k = max s.clock t.now in
     let more = clock_kept setup t.rules (at t.now s) t.event in
     let after = (run setup (t ∷ events)).relays in
-    let leaves = event_leaves setup t.rules tuple (history setup events) t.event (at t.now s) (each_filter (IsBacked (history setup events)) (is_live k) s.relays (run_backed setup events)) isnt in
+    let leaves = event_leaves setup t.rules tuple (history setup events) t.event (at t.now s) (each_filter (IsBacked setup (history setup events)) (is_live k) s.relays (run_backed setup events)) isnt in
     filter_swap (is_of tuple) (is_live m) after
     ∙ (ap (λ (l : List Relay). filter (is_live m) l) leaves
     ∙ (filter_swap (is_live m) (is_of tuple) (filter (is_live k) s.relays)
@@ -594,8 +594,8 @@ not_sent : (setup : Setup) (rules : Rules) (c : ℕ) (tuple : FiveTuple) (peer :
 not_sent setup rules c tuple peer bytes a off None = off
 not_sent setup rules c tuple peer bytes a off (Some d) = off
 
-all_backed : (setup : Setup) (events : List Timed) (now : ℕ) → AllByRecursion (IsBacked (history setup events)) (at now (run setup events)).relays
-all_backed setup events now = each_filter (IsBacked (history setup events)) (is_live (max (run setup events).clock now)) (run setup events).relays (run_backed setup events)
+all_backed : (setup : Setup) (events : List Timed) (now : ℕ) → AllByRecursion (IsBacked setup (history setup events)) (at now (run setup events)).relays
+all_backed setup events now = each_filter (IsBacked setup (history setup events)) (is_live (max (run setup events).clock now)) (run setup events).relays (run_backed setup events)
 
 others_by : (setup : Setup) (tuple : FiveTuple) (events : List Timed) (now : ℕ) (rules : Rules) (event : Event) → is_own tuple (history setup events) event ≡ false → comes_to tuple (step setup rules (run setup events) now event).output ≡ false
 others_by setup tuple events now rules (asks other user request) isnt =
@@ -610,14 +610,14 @@ others_by setup tuple events now rules (sends_on other channel bytes) isnt =
     (λ a. unsent_or tuple (sent_by rules bytes a) (find (is_channel s.clock channel) a.channels) (λ d. unsent_if tuple (allows rules d.peer) (to_peer a.number d.peer false bytes) refl))
 others_by setup tuple events now rules (arrives number peer bytes) isnt =
     let s = at now (run setup events) in
-    found (IsBacked (history setup events)) (is_at number) (λ o. comes_to tuple (option_map_or (received rules s.clock peer bytes) o nothing) ≡ false) refl s.relays
+    found (IsBacked setup (history setup events)) (is_at number) (λ o. comes_to tuple (option_map_or (received rules s.clock peer bytes) o nothing) ≡ false) refl s.relays
     (λ a it b. unsent_if tuple (is_permitted s.clock peer.ip a && rules.allows_ip peer.ip) (option_map_or (by_channel peer bytes a) (find (is_channel_of s.clock peer) a.channels) (to_client a.tuple peer bytes))
-    (not_sent setup rules s.clock tuple peer bytes a (not_true (is_of tuple a) (λ of. false≢true (sym isnt ∙ got tuple number (history setup events) a b of it))) (find (is_channel_of s.clock peer) a.channels))) (all_backed setup events now)
+    (not_sent setup rules s.clock tuple peer bytes a (not_true (is_of tuple a) (λ of. false≢true (sym isnt ∙ got setup tuple number (history setup events) a b of it))) (find (is_channel_of s.clock peer) a.channels))) (all_backed setup events now)
 others_by setup tuple events now rules (bounces number peer icmp) isnt =
     let s = at now (run setup events) in
-    found (IsBacked (history setup events)) (is_at number) (λ o. comes_to tuple (option_map_or (bounced setup rules s.clock peer icmp) o nothing) ≡ false) refl s.relays
+    found (IsBacked setup (history setup events)) (is_at number) (λ o. comes_to tuple (option_map_or (bounced setup rules s.clock peer icmp) o nothing) ≡ false) refl s.relays
     (λ a it b. unsent_if tuple (is_permitted s.clock peer.ip a && (rules.allows_ip peer.ip && (setup.passes_icmp && is_passed peer.ip.family icmp))) (to_client_icmp a.tuple peer icmp)
-    (not_true (is_of tuple a) (λ of. false≢true (sym isnt ∙ got tuple number (history setup events) a b of it)))) (all_backed setup events now)
+    (not_true (is_of tuple a) (λ of. false≢true (sym isnt ∙ got setup tuple number (history setup events) a b of it)))) (all_backed setup events now)
 others_by setup tuple events now rules (ends number) isnt = refl
 others_by setup tuple events now rules (ends_user user) isnt = refl
 others_by setup tuple events now rules ticks isnt = refl

@@ -2,18 +2,18 @@
 use Rattle.std.proofs.Common.{◌≡◌, ℕ, ◌+◌, ◌≤◌, inl, inr, Bool, true, false, not, cond, List, [], ◌∷◌, map, filter, None, refl, sym, ap, ◌∙◌, subst, eqb-true, eq-eqb, zero-le, arith}
 use Rattle.std.specs.List.{AllByRecursion, list_any}
 use Rattle.std.specs.Prelude.{◌==◌, ◌&&◌, max, nat_lt, count_by}
-use Rattle.std.proofs.lemmas.Bool.{cond_both, cond-false, and_parts, and_from, or_left, or_right, or_cases, false≢true}
+use Rattle.std.proofs.lemmas.Bool.{cond_both, cond-false, and_parts, and_from, or_cases, false≢true}
 use Rattle.stun_endpoints.specs.declared.endpoints.Endpoint.{Endpoint}
 use Rattle.stun_endpoints.specs.declared.endpoints.FiveTuple.{FiveTuple}
 use Rattle.stun_endpoints.specs.Endpoints.{is_tuple}
-use Rattle.turn_machine.specs.Relays.{seconds, Channel, Relay, Setup, Rules, State, is_live, is_of, is_for, is_users, is_owned, is_channel}
+use Rattle.turn_machine.specs.Relays.{seconds, Channel, Relay, Setup, Rules, State, is_live, is_of, is_for, is_users, is_owned, is_channel, bound_for}
 use Rattle.turn_machine.specs.Events.{Offer, bind}
 use Rattle.turn_machine.specs.Opening.{opened, with_relay}
 use Rattle.turn_machine.specs.Rows.{clashes, is_bound_otherwise, is_other_channel, with_channel, fault}
 use Rattle.turn_machine.specs.Steps.{changed, is_wanted, lasting, permitting, binding}
 use Rattle.turn_machine.specs.Runs.{Timed, run}
 use Rattle.turn_machine.proofs.AddressesLemmas.{endpoint_same, tuple_same}
-use Rattle.turn_machine.proofs.ListsLemmas.{each_filter, any_none, right_false, count_cons, count_map, count_filter}
+use Rattle.turn_machine.proofs.ListsLemmas.{each_filter, any_none, right_false, count_cons, count_map, count_filter, any_filter}
 use Rattle.turn_machine.proofs.RowsLemmas.{bind_none}
 use Rattle.turn_machine.proofs.KeepingLemmas.{Keeps, Anyone, run_keeps}
 use Rattle.turn_machine.proofs.KeptLemmas.{his_same, lasting_same, binding_same, bound_after}
@@ -56,15 +56,6 @@ same_once tuple user change state tuples channels once t m channel le =
     (λ a. ap (λ (x : FiveTuple). is_tuple t x && list_any (is_channel m channel) ((cond (is_owned tuple user a) (change a) a).channels)) (his_same (λ b. b.tuple) tuple user change tuples a)
     ∙ ap (λ (cs : List Channel). is_of t a && list_any (is_channel m channel) cs) (his_same (λ b. b.channels) tuple user change channels a)) state.relays)) (once t m channel le)
 
-any_filter : {X : Type 0} (test keep : X → Bool) (xs : List X) → list_any test (filter keep xs) ≡ true → list_any test xs ≡ true
-any_filter test keep [] any = any
-any_filter test keep (x ∷ xs) any =
-    cond_both (keep x) (x ∷ filter keep xs) (filter keep xs) (λ l. list_any test l ≡ true → list_any test (x ∷ xs) ≡ true)
-    (λ _ e. elim (or_cases (test x) (list_any test (filter keep xs)) e) [
-      | inl is ↦ or_left (test x) (list_any test xs) is
-      | inr more ↦ or_right (test x) (list_any test xs) (any_filter test keep xs more)
-    ]) (λ _ e. or_right (test x) (list_any test xs) (any_filter test keep xs e)) any
-
 -- one that passes is as each is
 one_of : {X : Type 0} (P : X → Type 0) (test : X → Bool) (xs : List X) → AllByRecursion P xs → list_any test xs ≡ true → ((x : X) → P x → test x ≡ true → ⊥) → ⊥
 one_of P test [] each any never = false≢true any
@@ -85,9 +76,9 @@ was_live c m number channel peer cs differ any =
       | inr more ↦ any_filter (is_channel m channel) (is_other_channel c number) cs more
     ]
 
-bound_families : (c number : ℕ) (peer : Endpoint) (a : Relay) → AreOfFamily a → AreOfFamily (binding c number peer a)
-bound_families c number peer a each =
-    cond_both (peer.ip.family == a.family) (bound_after c number peer a) a AreOfFamily
+bound_families : (lifetime c number : ℕ) (peer : Endpoint) (a : Relay) → AreOfFamily a → AreOfFamily (binding lifetime c number peer a)
+bound_families lifetime c number peer a each =
+    cond_both (peer.ip.family == a.family) (bound_after lifetime c number peer a) a AreOfFamily
     (λ of. (eqb-true peer.ip.family a.family of, each_filter (λ d. d.peer.ip.family ≡ a.family) (is_other_channel c number) a.channels each)) (λ _. each)
 
 same_cond : (b : Bool) → b ≡ cond b true false
@@ -106,43 +97,43 @@ other_family c m tuple number peer a le families free has differ =
     false≢true (sym differ ∙ eq-eqb a.family peer.ip.family (sym p.0 ∙ ap (λ (x : Endpoint). x.ip.family) e)))
 
 -- who has the number after the bind is the relayed address of the peer's family
-is_peers : (c m : ℕ) (tuple : FiveTuple) (user number : ℕ) (peer : Endpoint) (a : Relay) → c ≤ m → AreOfFamily a → is_bound_otherwise c tuple number peer a ≡ false
-    → has_channel m tuple number (cond (is_owned tuple user a) (binding c number peer a) a) ≡ true → is_for tuple peer.ip.family a ≡ true
-is_peers c m tuple user number peer a le families free has =
+is_peers : (lifetime c m : ℕ) (tuple : FiveTuple) (user number : ℕ) (peer : Endpoint) (a : Relay) → c ≤ m → AreOfFamily a → is_bound_otherwise c tuple number peer a ≡ false
+    → has_channel m tuple number (cond (is_owned tuple user a) (binding lifetime c number peer a) a) ≡ true → is_for tuple peer.ip.family a ≡ true
+is_peers lifetime c m tuple user number peer a le families free has =
     cond_both (a.family == peer.ip.family) true false (λ (b : Bool). (a.family == peer.ip.family) ≡ b → is_for tuple peer.ip.family a ≡ true)
-    (λ _ same. and_from (is_of tuple a) (a.family == peer.ip.family) (subst (λ (t : FiveTuple). is_tuple tuple t ≡ true) (his_same (λ b. b.tuple) tuple user (binding c number peer) (binding_same (λ b. b.tuple) c number peer (λ _. refl)) a) (and_parts (is_of tuple (cond (is_owned tuple user a) (binding c number peer a) a)) (list_any (is_channel m number) ((cond (is_owned tuple user a) (binding c number peer a) a).channels)) has).0) same)
+    (λ _ same. and_from (is_of tuple a) (a.family == peer.ip.family) (subst (λ (t : FiveTuple). is_tuple tuple t ≡ true) (his_same (λ b. b.tuple) tuple user (binding lifetime c number peer) (binding_same (λ b. b.tuple) lifetime c number peer (λ _. refl)) a) (and_parts (is_of tuple (cond (is_owned tuple user a) (binding lifetime c number peer a) a)) (list_any (is_channel m number) ((cond (is_owned tuple user a) (binding lifetime c number peer a) a).channels)) has).0) same)
     (λ _ differ.
-    let unchanged : cond (is_owned tuple user a) (binding c number peer a) a ≡ a = cond_both (is_owned tuple user a) (binding c number peer a) a (λ (b : Relay). b ≡ a)
-    (λ _. cond-false (peer.ip.family == a.family) (bound_after c number peer a) a (not_true (peer.ip.family == a.family) (λ e. false≢true (sym differ ∙ eq-eqb a.family peer.ip.family (sym (eqb-true peer.ip.family a.family e)))))) (λ _. refl) in
+    let unchanged : cond (is_owned tuple user a) (binding lifetime c number peer a) a ≡ a = cond_both (is_owned tuple user a) (binding lifetime c number peer a) a (λ (b : Relay). b ≡ a)
+    (λ _. cond-false (peer.ip.family == a.family) (bound_after lifetime c number peer a) a (not_true (peer.ip.family == a.family) (λ e. false≢true (sym differ ∙ eq-eqb a.family peer.ip.family (sym (eqb-true peer.ip.family a.family e)))))) (λ _. refl) in
     let before : has_channel m tuple number a ≡ true = subst (λ (b : Relay). has_channel m tuple number b ≡ true) unchanged has in
     absurd (other_family c m tuple number peer a le families free before differ))
     (same_cond (a.family == peer.ip.family))
 
 -- another number, or of another client: as before
-as_before : (c m : ℕ) (tuple other : FiveTuple) (user number channel : ℕ) (peer : Endpoint) (a : Relay) → (number == channel) ≡ false → has_channel m other channel (cond (is_owned tuple user a) (binding c number peer a) a) ≡ true → has_channel m other channel a ≡ true
-as_before c m tuple other user number channel peer a differ has =
-    cond_both (is_owned tuple user a) (binding c number peer a) a (λ (b : Relay). has_channel m other channel b ≡ true → has_channel m other channel a ≡ true)
-    (λ _. cond_both (peer.ip.family == a.family) (bound_after c number peer a) a (λ (b : Relay). has_channel m other channel b ≡ true → has_channel m other channel a ≡ true)
+as_before : (lifetime c m : ℕ) (tuple other : FiveTuple) (user number channel : ℕ) (peer : Endpoint) (a : Relay) → (number == channel) ≡ false → has_channel m other channel (cond (is_owned tuple user a) (binding lifetime c number peer a) a) ≡ true → has_channel m other channel a ≡ true
+as_before lifetime c m tuple other user number channel peer a differ has =
+    cond_both (is_owned tuple user a) (binding lifetime c number peer a) a (λ (b : Relay). has_channel m other channel b ≡ true → has_channel m other channel a ≡ true)
+    (λ _. cond_both (peer.ip.family == a.family) (bound_after lifetime c number peer a) a (λ (b : Relay). has_channel m other channel b ≡ true → has_channel m other channel a ≡ true)
     (λ _ h. let both = and_parts (is_of other a) (list_any (is_channel m channel) (with_channel c number peer a.channels)) h in
     and_from (is_of other a) (list_any (is_channel m channel) a.channels) both.0 (was_live c m number channel peer a.channels differ both.1))
     (λ _ h. h)) (λ _ h. h) has
 
-others_as_before : (c m : ℕ) (tuple other : FiveTuple) (user number channel : ℕ) (peer : Endpoint) (a : Relay) → is_tuple other tuple ≡ false → has_channel m other channel (cond (is_owned tuple user a) (binding c number peer a) a) ≡ true → has_channel m other channel a ≡ true
-others_as_before c m tuple other user number channel peer a apart has =
-    cond_both (is_owned tuple user a) (binding c number peer a) a (λ (b : Relay). has_channel m other channel b ≡ true → has_channel m other channel a ≡ true)
+others_as_before : (lifetime c m : ℕ) (tuple other : FiveTuple) (user number channel : ℕ) (peer : Endpoint) (a : Relay) → is_tuple other tuple ≡ false → has_channel m other channel (cond (is_owned tuple user a) (binding lifetime c number peer a) a) ≡ true → has_channel m other channel a ≡ true
+others_as_before lifetime c m tuple other user number channel peer a apart has =
+    cond_both (is_owned tuple user a) (binding lifetime c number peer a) a (λ (b : Relay). has_channel m other channel b ≡ true → has_channel m other channel a ≡ true)
     (λ his h.
     let mine = tuple_same tuple a.tuple (and_parts (is_of tuple a) (is_users user a) his).0 in
-    let of : is_tuple other ((binding c number peer a).tuple) ≡ true = (and_parts (is_of other (binding c number peer a)) (list_any (is_channel m channel) (binding c number peer a).channels) h).0 in
-    let theirs : is_tuple other a.tuple ≡ true = subst (λ (t : FiveTuple). is_tuple other t ≡ true) (binding_same (λ b. b.tuple) c number peer (λ _. refl) a) of in
+    let of : is_tuple other ((binding lifetime c number peer a).tuple) ≡ true = (and_parts (is_of other (binding lifetime c number peer a)) (list_any (is_channel m channel) (binding lifetime c number peer a).channels) h).0 in
+    let theirs : is_tuple other a.tuple ≡ true = subst (λ (t : FiveTuple). is_tuple other t ≡ true) (binding_same (λ b. b.tuple) lifetime c number peer (λ _. refl) a) of in
     absurd (false≢true (sym apart ∙ subst (λ (t : FiveTuple). is_tuple other t ≡ true) (sym mine) theirs)))
     (λ _ h. h) has
 
 bound_once : (rules : Rules) (setup : Setup) (tuple : FiveTuple) (user number : ℕ) (peer : Endpoint) (state : State) → fault setup rules state tuple user (bind number peer) ≡ None → HasOnce state
-    → (t : FiveTuple) (m channel : ℕ) → state.clock ≤ m → count_by (has_channel m t channel) (changed tuple user (binding state.clock number peer) state).relays ≤ 1
+    → (t : FiveTuple) (m channel : ℕ) → state.clock ≤ m → count_by (has_channel m t channel) (changed tuple user (binding (bound_for setup) state.clock number peer) state).relays ≤ 1
 bound_once rules setup tuple user number peer state fit has t m channel le =
     let c = state.clock in
     let free = any_none (is_bound_otherwise c tuple number peer) state.relays (bind_none setup rules tuple user number peer state fit).free in
-    let change = λ (a : Relay). cond (is_owned tuple user a) (binding c number peer a) a in
+    let change = λ (a : Relay). cond (is_owned tuple user a) (binding (bound_for setup) c number peer a) a in
     let before = has.once t m channel le in
     let single = has.single tuple peer.ip.family in
     cond_both (is_tuple t tuple) true false (λ (b : Bool). is_tuple t tuple ≡ b → count_by (has_channel m t channel) (map change state.relays) ≤ 1)
@@ -152,16 +143,16 @@ bound_once rules setup tuple user number peer state fit has t m channel le =
     let n_is = eqb-true number channel same in
     let less : count_by (has_channel m tuple number) (map change state.relays) ≤ count_by (is_for tuple peer.ip.family) state.relays = count_less (has_channel m tuple number) (is_for tuple peer.ip.family) change state.relays
     (each_both AreOfFamily (λ a. is_bound_otherwise c tuple number peer a ≡ false) (λ a. has_channel m tuple number (change a) ≡ true → is_for tuple peer.ip.family a ≡ true)
-    (λ a families clash h. is_peers c m tuple user number peer a le families clash h) state.relays has.families free) in
+    (λ a families clash h. is_peers (bound_for setup) c m tuple user number peer a le families clash h) state.relays has.families free) in
     let at_most : count_by (has_channel m tuple number) (map change state.relays) ≤ 1 = omega (arith, less, single) in
     subst (λ (x : FiveTuple). count_by (has_channel m x channel) (map change state.relays) ≤ 1) (sym t_is)
     (subst (λ (k : ℕ). count_by (has_channel m tuple k) (map change state.relays) ≤ 1) n_is at_most))
     (λ _ differ.
-    let less = count_less (has_channel m t channel) (has_channel m t channel) change state.relays (each_always (λ a. has_channel m t channel (change a) ≡ true → has_channel m t channel a ≡ true) (λ a h. as_before c m tuple t user number channel peer a differ h) state.relays) in
+    let less = count_less (has_channel m t channel) (has_channel m t channel) change state.relays (each_always (λ a. has_channel m t channel (change a) ≡ true → has_channel m t channel a ≡ true) (λ a h. as_before (bound_for setup) c m tuple t user number channel peer a differ h) state.relays) in
     omega (arith, less, before))
     (same_cond (number == channel)))
     (λ _ apart.
-    let less = count_less (has_channel m t channel) (has_channel m t channel) change state.relays (each_always (λ a. has_channel m t channel (change a) ≡ true → has_channel m t channel a ≡ true) (λ a h. others_as_before c m tuple t user number channel peer a apart h) state.relays) in
+    let less = count_less (has_channel m t channel) (has_channel m t channel) change state.relays (each_always (λ a. has_channel m t channel (change a) ≡ true → has_channel m t channel a ≡ true) (λ a h. others_as_before (bound_for setup) c m tuple t user number channel peer a apart h) state.relays) in
     omega (arith, less, before))
     (same_cond (is_tuple t tuple))
 
@@ -202,7 +193,7 @@ once_kept setup =
       };
       bound = λ rules tuple user number peer state fit h. record {
         single = s.bound rules tuple user number peer state fit h.single;
-        families = each_changed AreOfFamily AreOfFamily tuple user (binding state.clock number peer) state (λ a f. f) (λ a _ f. bound_families state.clock number peer a f) h.families;
+        families = each_changed AreOfFamily AreOfFamily tuple user (binding (bound_for setup) state.clock number peer) state (λ a f. f) (λ a _ f. bound_families (bound_for setup) state.clock number peer a f) h.families;
         once = bound_once rules setup tuple user number peer state fit h;
       };
     }

@@ -47,14 +47,22 @@ Moment setup earlier now = max (run setup earlier).clock now
 
 abbrev HeldFor : (setup : Setup) (earlier : List Timed) (now : ℕ) (tuple : FiveTuple) (number : ℕ) (peer : Endpoint) (Asked : (user : ℕ) → List Happening → Type 0) → IsDue (history setup earlier) (Moment setup earlier now) tuple number peer Asked → Type 0
 HeldFor setup earlier now tuple number peer Asked due =
-    OuterStep tuple due.user number (due.opening.moment + seconds due.opens.granted) peer (Moment setup earlier now) due.since (at now (run setup earlier))
+    OuterStep setup tuple due.user number (due.opening.moment + seconds due.opens.granted) peer (Moment setup earlier now) due.since (at now (run setup earlier))
 
 held_for : (setup : Setup) (earlier : List Timed) (now : ℕ) (tuple : FiveTuple) (number : ℕ) (peer : Endpoint) (Asked : (user : ℕ) → List Happening → Type 0) (due : IsDue (history setup earlier) (Moment setup earlier now) tuple number peer Asked) → HeldFor setup earlier now tuple number peer Asked due
 held_for setup earlier now tuple number peer Asked due =
     let first = due.opening.moment + seconds due.opens.granted in
     let kept = due.kept in
-    held_at tuple due.user number first peer (Moment setup earlier now) due.since (run setup earlier) now due.kept
+    held_at setup tuple due.user number first peer (Moment setup earlier now) due.since (run setup earlier) now due.kept
     (run_held setup tuple due.user number peer (Moment setup earlier now) earlier due.since due.opening due.before due.split due.opens due.first (omega arith) due.lasted (omega (arith, kept)))
+
+-- and the peer is permitted
+permitted_by : (setup : Setup) (earlier : List Timed) (now : ℕ) (tuple : FiveTuple) (number : ℕ) (peer : Endpoint) (Asked : (user : ℕ) → List Happening → Type 0) (due : IsDue (history setup earlier) (Moment setup earlier now) tuple number peer Asked)
+    (held : HeldFor setup earlier now tuple number peer Asked due) → ArePermitting setup tuple peer (Moment setup earlier now) due.user due.since → is_permitted (Moment setup earlier now) peer.ip held.a ≡ true
+permitted_by setup earlier now tuple number peer Asked due held asked = elim asked [
+  | inl some ↦ held.permits some
+  | inr long ↦ held.permits_long long.0 long.1
+]
 
 -- at its socket
 at_socket : (setup : Setup) (earlier : List Timed) (now : ℕ) (tuple : FiveTuple) (number : ℕ) (peer : Endpoint) (Asked : (user : ℕ) → List Happening → Type 0) (due : IsDue (history setup earlier) (Moment setup earlier now) tuple number peer Asked)
@@ -78,14 +86,14 @@ may_keep false keeps f = refl
 -- ---- From the client
 
 pub goes_out : (setup : Setup) (earlier : List Timed) (now : ℕ) (rules : Rules) (tuple : FiveTuple) (number : ℕ) (peer : Endpoint) (dont_fragment : Bool) (bytes : List ℕ)
-    → IsDue (history setup earlier) (Moment setup earlier now) tuple number peer (ArePermitting tuple peer (Moment setup earlier now)) → allows rules peer ≡ true → (dont_fragment ≡ true → setup.supports_dont_fragment ≡ true)
+    → IsDue (history setup earlier) (Moment setup earlier now) tuple number peer (ArePermitting setup tuple peer (Moment setup earlier now)) → allows rules peer ≡ true → (dont_fragment ≡ true → setup.supports_dont_fragment ≡ true)
     → output_of setup earlier now rules (sends tuple peer dont_fragment bytes) ≡ to_peer number peer dont_fragment bytes
 goes_out setup earlier now rules tuple number peer dont_fragment bytes due allowed can =
     let n = Moment setup earlier now in
-    let held = held_for setup earlier now tuple number peer (ArePermitting tuple peer n) due in
+    let held = held_for setup earlier now tuple number peer (ArePermitting setup tuple peer n) due in
     ap (λ (o : Option Relay). option_map_or (sent setup rules n peer dont_fragment bytes) o nothing) held.found
     ∙ (cond-true (is_permitted n peer.ip held.a && (allows rules peer && (not dont_fragment || setup.supports_dont_fragment))) (to_peer held.a.number peer dont_fragment bytes) nothing
-    (and_from (is_permitted n peer.ip held.a) (allows rules peer && (not dont_fragment || setup.supports_dont_fragment)) (held.permits due.asked) (and_from (allows rules peer) (not dont_fragment || setup.supports_dont_fragment) allowed (may_keep dont_fragment setup.supports_dont_fragment can)))
+    (and_from (is_permitted n peer.ip held.a) (allows rules peer && (not dont_fragment || setup.supports_dont_fragment)) (permitted_by setup earlier now tuple number peer (ArePermitting setup tuple peer n) due held due.asked) (and_from (allows rules peer) (not dont_fragment || setup.supports_dont_fragment) allowed (may_keep dont_fragment setup.supports_dont_fragment can)))
     ∙ ap (λ (k : ℕ). to_peer k peer dont_fragment bytes) held.number_is)
 
 any_found : (n channel : ℕ) (cs : List Channel) (c : Channel) → find (is_channel n channel) cs ≡ Some c → list_any (is_channel n channel) cs ≡ true
@@ -126,45 +134,45 @@ received_is setup earlier now rules tuple number peer bytes Asked due held permi
     (and_from (is_permitted n peer.ip held.a) (rules.allows_ip peer.ip) permitted allowed)
 
 pub comes_back : (setup : Setup) (earlier : List Timed) (now : ℕ) (rules : Rules) (tuple : FiveTuple) (number : ℕ) (peer : Endpoint) (bytes : List ℕ)
-    → IsDue (history setup earlier) (Moment setup earlier now) tuple number peer (ArePermitting tuple peer (Moment setup earlier now)) → rules.allows_ip peer.ip ≡ true
+    → IsDue (history setup earlier) (Moment setup earlier now) tuple number peer (ArePermitting setup tuple peer (Moment setup earlier now)) → rules.allows_ip peer.ip ≡ true
     → Reaches tuple peer bytes (output_of setup earlier now rules (arrives number peer bytes))
 comes_back setup earlier now rules tuple number peer bytes due allowed =
     let n = Moment setup earlier now in
-    let held = held_for setup earlier now tuple number peer (ArePermitting tuple peer n) due in
-    subst (Reaches tuple peer bytes) (sym (received_is setup earlier now rules tuple number peer bytes (ArePermitting tuple peer n) due held (held.permits due.asked) allowed))
-    (reaches_by tuple peer bytes held.a (his_tuple setup earlier now tuple number peer (ArePermitting tuple peer n) due held) (find (is_channel_of n peer) held.a.channels))
+    let held = held_for setup earlier now tuple number peer (ArePermitting setup tuple peer n) due in
+    subst (Reaches tuple peer bytes) (sym (received_is setup earlier now rules tuple number peer bytes (ArePermitting setup tuple peer n) due held (permitted_by setup earlier now tuple number peer (ArePermitting setup tuple peer n) due held due.asked) allowed))
+    (reaches_by tuple peer bytes held.a (his_tuple setup earlier now tuple number peer (ArePermitting setup tuple peer n) due held) (find (is_channel_of n peer) held.a.channels))
 
 pub news_comes : (setup : Setup) (earlier : List Timed) (now : ℕ) (rules : Rules) (tuple : FiveTuple) (number : ℕ) (peer : Endpoint) (icmp : Icmp)
-    → IsDue (history setup earlier) (Moment setup earlier now) tuple number peer (ArePermitting tuple peer (Moment setup earlier now)) → rules.allows_ip peer.ip ≡ true → setup.passes_icmp ≡ true → is_passed peer.ip.family icmp ≡ true
+    → IsDue (history setup earlier) (Moment setup earlier now) tuple number peer (ArePermitting setup tuple peer (Moment setup earlier now)) → rules.allows_ip peer.ip ≡ true → setup.passes_icmp ≡ true → is_passed peer.ip.family icmp ≡ true
     → output_of setup earlier now rules (bounces number peer icmp) ≡ to_client_icmp tuple peer icmp
 news_comes setup earlier now rules tuple number peer icmp due allowed on passed =
     let n = Moment setup earlier now in
-    let held = held_for setup earlier now tuple number peer (ArePermitting tuple peer n) due in
-    ap (λ (o : Option Relay). option_map_or (bounced setup rules n peer icmp) o nothing) (at_socket setup earlier now tuple number peer (ArePermitting tuple peer n) due held)
+    let held = held_for setup earlier now tuple number peer (ArePermitting setup tuple peer n) due in
+    ap (λ (o : Option Relay). option_map_or (bounced setup rules n peer icmp) o nothing) (at_socket setup earlier now tuple number peer (ArePermitting setup tuple peer n) due held)
     ∙ (cond-true (is_permitted n peer.ip held.a && (rules.allows_ip peer.ip && (setup.passes_icmp && is_passed peer.ip.family icmp))) (to_client_icmp held.a.tuple peer icmp) nothing
-    (and_from (is_permitted n peer.ip held.a) (rules.allows_ip peer.ip && (setup.passes_icmp && is_passed peer.ip.family icmp)) (held.permits due.asked)
+    (and_from (is_permitted n peer.ip held.a) (rules.allows_ip peer.ip && (setup.passes_icmp && is_passed peer.ip.family icmp)) (permitted_by setup earlier now tuple number peer (ArePermitting setup tuple peer n) due held due.asked)
     (and_from (rules.allows_ip peer.ip) (setup.passes_icmp && is_passed peer.ip.family icmp) allowed (and_from setup.passes_icmp (is_passed peer.ip.family icmp) on passed)))
-    ∙ ap (λ (t : FiveTuple). to_client_icmp t peer icmp) (his_tuple setup earlier now tuple number peer (ArePermitting tuple peer n) due held))
+    ∙ ap (λ (t : FiveTuple). to_client_icmp t peer icmp) (his_tuple setup earlier now tuple number peer (ArePermitting setup tuple peer n) due held))
 
 -- ---- By the channel
 
-abbrev Both : FiveTuple → (channel : ℕ) → Endpoint → (n user : ℕ) → List Happening → Type 0
-Both tuple channel peer n user since = ArePermitting tuple peer n user since × AreBinding tuple channel peer n user since
+abbrev Both : Setup → FiveTuple → (channel : ℕ) → Endpoint → (n user : ℕ) → List Happening → Type 0
+Both setup tuple channel peer n user since = ArePermitting setup tuple peer n user since × AreBinding tuple channel peer n user since
 
 pub comes_by_channel : (setup : Setup) (earlier : List Timed) (now : ℕ) (rules : Rules) (tuple : FiveTuple) (number : ℕ) (peer : Endpoint) (channel : ℕ) (bytes : List ℕ)
-    → IsDue (history setup earlier) (Moment setup earlier now) tuple number peer (λ user since. ArePermitting tuple peer (Moment setup earlier now) user since × AreBinding tuple channel peer (Moment setup earlier now) user since) → rules.allows_ip peer.ip ≡ true
+    → IsDue (history setup earlier) (Moment setup earlier now) tuple number peer (λ user since. ArePermitting setup tuple peer (Moment setup earlier now) user since × AreBinding tuple channel peer (Moment setup earlier now) user since) → rules.allows_ip peer.ip ≡ true
     → output_of setup earlier now rules (arrives number peer bytes) ≡ to_client_on tuple channel bytes
 comes_by_channel setup earlier now rules tuple number peer channel bytes due allowed =
     let n = Moment setup earlier now in
-    let held = held_for setup earlier now tuple number peer (Both tuple channel peer n) due in
+    let held = held_for setup earlier now tuple number peer (Both setup tuple channel peer n) due in
     let has = held.bound channel due.asked.1 in
     let test = and_parts (has.c.number == channel) (nat_lt n has.c.until) (find_true (is_channel n channel) held.a.channels has.c has.found) in
     let of_peer : is_channel_of n peer has.c ≡ true = and_from (is_endpoint has.c.peer peer) (nat_lt n has.c.until) (subst (λ (e : Endpoint). is_endpoint e peer ≡ true) (sym has.is_dest) (endpoint_is_itself peer)) test.1 in
     let some = some_found (is_channel_of n peer) held.a.channels (some_any (is_channel_of n peer) held.a.channels (some_map (λ d. d ≡ has.c) (λ d. is_channel_of n peer d ≡ true) (λ d same. subst (λ (x : Channel). is_channel_of n peer x ≡ true) (sym same) of_peer) held.a.channels (found_some (is_channel n channel) held.a.channels has.c has.found))) in
     let number_is : some.0.number ≡ channel = found_is (λ d. is_channel_of n peer d ≡ true → d.number ≡ channel) (is_channel_of n peer) held.a.channels some.0 some.1 has.only (find_true (is_channel_of n peer) held.a.channels some.0 some.1) in
-    received_is setup earlier now rules tuple number peer bytes (Both tuple channel peer n) due held (held.permits due.asked.0) allowed
+    received_is setup earlier now rules tuple number peer bytes (Both setup tuple channel peer n) due held (permitted_by setup earlier now tuple number peer (Both setup tuple channel peer n) due held due.asked.0) allowed
     ∙ (ap (λ (o : Option Channel). option_map_or (by_channel peer bytes held.a) o (to_client held.a.tuple peer bytes)) some.1
-    ∙ (ap (λ (t : FiveTuple). to_client_on t some.0.number bytes) (his_tuple setup earlier now tuple number peer (Both tuple channel peer n) due held) ∙ ap (λ (k : ℕ). to_client_on tuple k bytes) number_is))
+    ∙ (ap (λ (t : FiveTuple). to_client_on t some.0.number bytes) (his_tuple setup earlier now tuple number peer (Both setup tuple channel peer n) due held) ∙ ap (λ (k : ℕ). to_client_on tuple k bytes) number_is))
 
 within : (P : Happening → Type 0) (since : List Happening) (rest : List Happening) → SomeOf P since → SomeOf P (since ++ rest)
 within P [] rest some = absurd some
@@ -184,7 +192,7 @@ bound_then setup earlier now rules tuple number peer bytes channel is never =
     never (subst (IsBoundTo tuple peer n) (sym w.split) (within (λ h. (user : ℕ) × (c : ℕ) × Binds tuple user c peer n h) w.since (w.opening ∷ w.before) all))
 
 pub comes_by_indication : (setup : Setup) (earlier : List Timed) (now : ℕ) (rules : Rules) (tuple : FiveTuple) (number : ℕ) (peer : Endpoint) (bytes : List ℕ)
-    → IsDue (history setup earlier) (Moment setup earlier now) tuple number peer (ArePermitting tuple peer (Moment setup earlier now)) → (IsBoundTo tuple peer (Moment setup earlier now) (history setup earlier) → ⊥) → rules.allows_ip peer.ip ≡ true
+    → IsDue (history setup earlier) (Moment setup earlier now) tuple number peer (ArePermitting setup tuple peer (Moment setup earlier now)) → (IsBoundTo tuple peer (Moment setup earlier now) (history setup earlier) → ⊥) → rules.allows_ip peer.ip ≡ true
     → output_of setup earlier now rules (arrives number peer bytes) ≡ to_client tuple peer bytes
 comes_by_indication setup earlier now rules tuple number peer bytes due never allowed =
     elim (comes_back setup earlier now rules tuple number peer bytes due allowed) [

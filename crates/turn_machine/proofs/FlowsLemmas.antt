@@ -8,7 +8,7 @@ use Rattle.stun_endpoints.specs.declared.endpoints.Endpoint.{Endpoint}
 use Rattle.stun_endpoints.specs.declared.endpoints.FiveTuple.{FiveTuple}
 use Rattle.stun_endpoints.specs.Endpoints.{is_ip, is_endpoint, is_tuple}
 use Rattle.turn_machine.specs.Lists.{SomeOf}
-use Rattle.turn_machine.specs.Relays.{seconds, Permission, Channel, Relay, Setup, Rules, State, is_live, is_of, is_users, is_owned, is_at, is_permission, is_permitted, is_channel, is_channel_of}
+use Rattle.turn_machine.specs.Relays.{seconds, Permission, Channel, Relay, Setup, Rules, State, is_live, is_of, is_users, is_owned, is_at, is_permission, is_permitted, is_channel, is_channel_of, bound_for}
 use Rattle.turn_machine.specs.Events.{Want, Request, allocate, unfit_allocate, refresh, permit, bind, unfit, Event, asks, sends, sends_on, arrives, bounces, ends, ends_user, ticks, refreshed, Output, answers, to_peer, to_client, to_client_on, nothing}
 use Rattle.turn_machine.specs.Times.{at, granted_for, refreshed_for}
 use Rattle.turn_machine.specs.Opening.{opened, opens}
@@ -233,7 +233,7 @@ fulfilled_others setup tuple other channel user (refresh wanted lifetime) a c p 
     (λ _. ended_others tuple channel test a c p state (left_false (is_owned other user a) (is_wanted wanted a) not_his) h)
     (λ _. apart_change tuple other channel user change a c p state (lasting_same (λ b. b.tuple) wanted (state.clock + seconds granted) (λ _. refl)) apart h)
 fulfilled_others setup tuple other channel user (permit peers) a c p state apart h = apart_change tuple other channel user (permitting state.clock peers) a c p state (λ _. refl) apart h
-fulfilled_others setup tuple other channel user (bind number peer) a c p state apart h = apart_change tuple other channel user (binding state.clock number peer) a c p state (binding_same (λ b. b.tuple) state.clock number peer (λ _. refl)) apart h
+fulfilled_others setup tuple other channel user (bind number peer) a c p state apart h = apart_change tuple other channel user (binding (bound_for setup) state.clock number peer) a c p state (binding_same (λ b. b.tuple) (bound_for setup) state.clock number peer (λ _. refl)) apart h
 fulfilled_others setup tuple other channel user (unfit code) a c p state apart h = h
 
 -- what is fulfilled isn't refused

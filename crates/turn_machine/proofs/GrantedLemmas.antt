@@ -8,11 +8,11 @@ use Rattle.stun_endpoints.specs.declared.endpoints.Endpoint.{Endpoint}
 use Rattle.stun_endpoints.specs.declared.endpoints.FiveTuple.{FiveTuple}
 use Rattle.stun_endpoints.specs.Endpoints.{is_ip, is_tuple}
 use Rattle.turn_machine.specs.Lists.{SomeOf}
-use Rattle.turn_machine.specs.Relays.{seconds, Permission, Channel, Relay, Setup, Rules, State, is_of, is_for, is_users, is_owned, is_permission, is_channel}
+use Rattle.turn_machine.specs.Relays.{seconds, Permission, Channel, Relay, Setup, Rules, State, is_of, is_for, is_users, is_owned, is_permission, is_channel, bound_for}
 use Rattle.turn_machine.specs.Events.{refresh, permit, bind, refreshed, answers}
 use Rattle.turn_machine.specs.Times.{numbers, refreshed_for}
 use Rattle.turn_machine.specs.Opening.{has_of}
-use Rattle.turn_machine.specs.Rows.{row, has_wanted, is_other_permission, with_permissions, peers_of, permissions_after, lacks_permissions, have_families, permit_rows, is_other_channel, with_channel, clashes, is_bound_otherwise, is_channel_number, lacks_channels, bind_rows}
+use Rattle.turn_machine.specs.Rows.{row, has_wanted, is_other_permission, with_permissions, peers_of, permissions_after, lacks_permissions, have_families, permit_rows, is_other_channel, with_channel, clashes, is_bound_otherwise, is_channel_number, lacks_channels, bind_rows, with_permission_for}
 use Rattle.turn_machine.specs.Steps.{Step, changed, closing, is_wanted, lasting, permitting, binding, keeping, refreshes, serves}
 use Rattle.turn_machine.specs.Granting.{IsClash, HasOf, IsOwn, IsCovered, CanPermit, CanBind, relay_of, OthersStay, IsPermittedFrom, IsFor, IsRefreshed, ArePermitted, IsBound}
 use Rattle.turn_machine.proofs.AddressesLemmas.{ip_same, ip_is_itself, tuple_same}
@@ -208,6 +208,11 @@ or_second : (p q : Bool) → p ≡ false → (p || q) ≡ true → q ≡ true
 or_second true q e any = absurd (false≢true (sym e))
 or_second false q e any = any
 
+pub exactly_for : (lifetime now m : ℕ) (ip new : Ip) (ps : List Permission) → is_ip ip new ≡ true → list_any (is_permission m ip) (with_permission_for lifetime now new ps) ≡ nat_lt m (now + seconds lifetime)
+exactly_for lifetime now m ip new ps same =
+    by_head (is_ip ip new) (nat_lt m (now + seconds lifetime)) (list_any (is_permission m ip) (filter (is_other_permission now new) ps))
+    (λ _. none_left now m ip new ps same) (λ differ. absurd (false≢true (sym differ ∙ same)))
+
 pub exactly_300 : (now m : ℕ) (ip : Ip) (peers : List Endpoint) (ps : List Permission) → now ≤ m → list_any (λ peer. is_ip ip peer.ip) peers ≡ true → list_any (is_permission m ip) (with_permissions now peers ps) ≡ nat_lt m (now + seconds 300)
 exactly_300 now m ip [] ps le any = absurd (false≢true any)
 exactly_300 now m ip (peer ∷ peers) ps le any =
@@ -262,7 +267,7 @@ permit_granted setup rules state tuple user peers can =
     (sym (for_granted setup rules tuple user (permit peers) state refl (own_none tuple user state (permit_rows setup rules state tuple user peers) can.own (permit_fits setup rules tuple user peers state can))))
     (record {
       output = refl;
-      each = each_both (λ peer. HasOf tuple peer.ip.family state) (λ peer. (f : ℕ) → (peer.ip.family == f) ≡ true → list_any (λ p. is_ip peer.ip p.ip) (filter (λ p. p.ip.family == f) peers) ≡ true) (λ peer. IsPermittedFrom tuple peer state.clock new)
+      each = each_both (λ peer. HasOf tuple peer.ip.family state) (λ peer. (f : ℕ) → (peer.ip.family == f) ≡ true → list_any (λ p. is_ip peer.ip p.ip) (filter (λ p. p.ip.family == f) peers) ≡ true) (λ peer. IsPermittedFrom tuple peer 300 state.clock new)
           (λ peer has named.
           let here = some_found (is_for tuple peer.ip.family) state.relays (some_any (is_for tuple peer.ip.family) state.relays has) in
           let same = family_is tuple peer.ip.family state here.0 here.1 in
@@ -318,26 +323,27 @@ not_among now m number (c ∷ cs) =
     (λ kept. (left_false (c.number == number) (nat_lt m c.until) (not_true (c.number == number) (λ same. false≢true (sym (ap not same) ∙ (and_parts (not (c.number == number)) (nat_lt now c.until) kept).0))), more))
     (λ _. more)
 
-pub bind_granted : (setup : Setup) (rules : Rules) (state : State) (tuple : FiveTuple) (user number : ℕ) (peer : Endpoint) → CanBind setup rules tuple user number peer state → IsBound tuple number peer state (serves setup rules tuple user (bind number peer) state)
+pub bind_granted : (setup : Setup) (rules : Rules) (state : State) (tuple : FiveTuple) (user number : ℕ) (peer : Endpoint) → CanBind setup rules tuple user number peer state → IsBound setup tuple number peer state (serves setup rules tuple user (bind number peer) state)
 bind_granted setup rules state tuple user number peer can =
     let now = state.clock in
-    let change = binding now number peer in
-    let tuples : (b : Relay) → (change b).tuple ≡ b.tuple = binding_same (λ b. b.tuple) now number peer (λ _. refl) in
-    let families : (b : Relay) → (change b).family ≡ b.family = binding_same (λ b. b.family) now number peer (λ _. refl) in
+    let lifetime = bound_for setup in
+    let change = binding lifetime now number peer in
+    let tuples : (b : Relay) → (change b).tuple ≡ b.tuple = binding_same (λ b. b.tuple) lifetime now number peer (λ _. refl) in
+    let families : (b : Relay) → (change b).family ≡ b.family = binding_same (λ b. b.family) lifetime now number peer (λ _. refl) in
     let has = some_any (is_for tuple peer.ip.family) state.relays can.permits.families.0 in
     let here = some_found (is_for tuple peer.ip.family) state.relays has in
     let a = here.0 in
     let same : (peer.ip.family == a.family) ≡ true = eq-eqb peer.ip.family a.family (sym (family_is tuple peer.ip.family state a here.1)) in
-    let is : relay_of tuple peer.ip.family (changed tuple user change state) ≡ Some (bound_after now number peer a) =
+    let is : relay_of tuple peer.ip.family (changed tuple user change state) ≡ Some (bound_after lifetime now number peer a) =
     after_change tuple user peer.ip.family change state a tuples families can.permits.own here.1
-    ∙ ap (λ (b : Relay). Some b) (cond-true (peer.ip.family == a.family) (bound_after now number peer a) a same) in
+    ∙ ap (λ (b : Relay). Some b) (cond-true (peer.ip.family == a.family) (bound_after lifetime now number peer a) a same) in
     let dont_fragment : Channel = record { number = number; peer = peer; until = now + seconds 600 } in
-    subst (IsBound tuple number peer state)
+    subst (IsBound setup tuple number peer state)
     (sym (for_granted setup rules tuple user (bind number peer) state refl (own_none tuple user state (bind_rows setup rules state tuple user number peer) can.permits.own (bind_fits setup rules tuple user number peer state can))))
     (record {
       output = refl;
       channel = record {
-        relay = bound_after now number peer a;
+        relay = bound_after lifetime now number peer a;
         is = is;
         lasts = λ m _ soon. cond-true (is_channel m number dont_fragment) (Some dont_fragment) (find (is_channel m number) (filter (is_other_channel now number) a.channels))
             (and_from (number == number) (nat_lt m (now + seconds 600)) (eq-eqb number number refl) (lt-ltb m (now + seconds 600) soon));
@@ -346,9 +352,9 @@ bind_granted setup rules state tuple user number peer can =
             ∙ find_none (is_channel m number) (filter (is_other_channel now number) a.channels) (not_among now m number a.channels);
       };
       permission = record {
-        relay = bound_after now number peer a;
+        relay = bound_after lifetime now number peer a;
         is = is;
-        lasts = λ m le. exactly_300 now m peer.ip (peers_of a (peer ∷ [])) a.permissions le ((each_named (peer ∷ [])).0 a.family same);
+        lasts = λ m _. exactly_for lifetime now m peer.ip peer.ip a.permissions (ip_is_itself peer.ip);
       };
       others = others_stay tuple user change state tuples families;
     })

@@ -8,15 +8,15 @@ use Rattle.stun_endpoints.specs.declared.endpoints.Ip.{Ip}
 use Rattle.stun_endpoints.specs.declared.endpoints.Endpoint.{Endpoint}
 use Rattle.stun_endpoints.specs.declared.endpoints.FiveTuple.{FiveTuple}
 use Rattle.stun_endpoints.specs.Endpoints.{is_ip, is_endpoint, is_tuple}
-use Rattle.turn_machine.specs.Lists.{SomeOf}
-use Rattle.turn_machine.specs.Relays.{seconds, Permission, Channel, Relay, Setup, State, is_live, is_of, is_for, is_owned, is_permission, is_permitted, is_channel, is_channel_of}
+use Rattle.turn_machine.specs.Lists.{SomeOf, SomeSince}
+use Rattle.turn_machine.specs.Relays.{seconds, Permission, Channel, Relay, Setup, State, is_live, is_of, is_for, is_owned, is_permission, is_permitted, is_channel, is_channel_of, bound_for}
 use Rattle.turn_machine.specs.Times.{at}
 use Rattle.turn_machine.specs.Opening.{opened}
-use Rattle.turn_machine.specs.Rows.{is_other_permission, with_permission, with_permissions, peers_of, clashes}
+use Rattle.turn_machine.specs.Rows.{is_other_permission, with_permission_for, with_permissions, peers_of, clashes}
 use Rattle.turn_machine.specs.Steps.{changed, lasting, permitting, binding}
 use Rattle.turn_machine.specs.Runs.{Timed, Happening, run}
 use Rattle.turn_machine.specs.Granting.{relay_of}
-use Rattle.turn_machine.specs.Warrants.{refreshed_to, is_ended, end_of, Permits, Binds}
+use Rattle.turn_machine.specs.Warrants.{refreshed_to, is_ended, end_of, Permits, Binds, BindsTo, Renews}
 use Rattle.turn_machine.proofs.AddressesLemmas.{ip_same, tuple_same}
 use Rattle.turn_machine.proofs.ListsLemmas.{count_cons, count_map, count_filter}
 use Rattle.turn_machine.proofs.RowsLemmas.{can_parts}
@@ -64,11 +64,15 @@ single_kept setup = record {
   ended = λ test state single tuple family. let fewer = count_filter (is_for tuple family) (λ a. not (test a)) state.relays in let s = single tuple family in omega (arith, s, fewer);
   lasted = λ tuple user family until state _ single. single_changed tuple user (lasting family until) state (lasting_same (λ b. b.tuple) family until (λ _. refl)) (lasting_same (λ b. b.family) family until (λ _. refl)) single;
   permitted = λ rules tuple user peers state _ single. single_changed tuple user (permitting state.clock peers) state (λ _. refl) (λ _. refl) single;
-  bound = λ rules tuple user number peer state _ single. single_changed tuple user (binding state.clock number peer) state (binding_same (λ b. b.tuple) state.clock number peer (λ _. refl)) (binding_same (λ b. b.family) state.clock number peer (λ _. refl)) single;
+  bound = λ rules tuple user number peer state _ single. single_changed tuple user (binding (bound_for setup) state.clock number peer) state (binding_same (λ b. b.tuple) (bound_for setup) state.clock number peer (λ _. refl)) (binding_same (λ b. b.family) (bound_for setup) state.clock number peer (λ _. refl)) single;
 }
 
 pub run_single : (setup : Setup) (events : List Timed) → IsSingle (run setup events)
 run_single setup events = run_keeps setup IsSingle (single_kept setup) (λ tuple family. zero-le) events
+
+-- a permission that lasts as long as a channel, and that no CreatePermission request has set anew
+abbrev pub IsLong : FiveTuple → (user : ℕ) → Ip → (n : ℕ) → List Happening → Type 0
+IsLong tuple user ip n since = SomeSince (BindsTo tuple user ip n) (λ h. ¬ (Renews tuple user ip h)) since
 
 -- ---- What is held, for a moment n at which the client or the peer will send
 
@@ -79,7 +83,7 @@ pub record HasChannel (dest : Endpoint) (n channel : ℕ) (cs : List Channel) : 
   pub is_dest : c.peer ≡ dest
   pub only : AllByRecursion (λ d. is_channel_of n dest d ≡ true → d.number ≡ channel) cs
 
-pub record OuterStep (tuple : FiveTuple) (user number first : ℕ) (dest : Endpoint) (n : ℕ) (since : List Happening) (state : State) : Type 0 where
+pub record OuterStep (setup : Setup) (tuple : FiveTuple) (user number first : ℕ) (dest : Endpoint) (n : ℕ) (since : List Happening) (state : State) : Type 0 where
   pub a : Relay
   pub found : relay_of tuple dest.ip.family state ≡ Some a
   pub user_is : a.user ≡ user
@@ -87,6 +91,8 @@ pub record OuterStep (tuple : FiveTuple) (user number first : ℕ) (dest : Endpo
   pub ends : end_of tuple user dest.ip.family number first since ≤ a.until
   pub permits : SomeOf (Permits tuple user dest.ip n) since → is_permitted n dest.ip a ≡ true
   pub soon : SomeOf (Permits tuple user dest.ip n) since → n < state.clock + seconds 300
+  pub permits_long : setup.channel_permits ≡ true → IsLong tuple user dest.ip n since → is_permitted n dest.ip a ≡ true
+  pub long_soon : IsLong tuple user dest.ip n since → n < state.clock + seconds 600
   pub bound : (channel : ℕ) → SomeOf (Binds tuple user channel dest n) since → HasChannel dest n channel a.channels
   pub bound_soon : (channel : ℕ) → SomeOf (Binds tuple user channel dest n) since → n < state.clock + seconds 600
 
@@ -95,7 +101,7 @@ pub record Grants_nothing (tuple : FiveTuple) (user number : ℕ) (dest : Endpoi
   pub calm : is_ended user number h.event ≡ false
   pub lifetime : refreshed_to tuple user dest.ip.family h ≡ None
   pub permits : Permits tuple user dest.ip n h → ⊥
-  pub binds : (channel : ℕ) → Binds tuple user channel dest n h → ⊥
+  pub binds : BindsTo tuple user dest.ip n h → ⊥
 
 pub end_same : (tuple : FiveTuple) (user family number first : ℕ) (h : Happening) (since : List Happening) → is_ended user number h.event ≡ false → refreshed_to tuple user family h ≡ None → end_of tuple user family number first (h ∷ since) ≡ end_of tuple user family number first since
 end_same tuple user family number first h since calm none =
@@ -106,19 +112,26 @@ pub only_older : (P : Happening → Type 0) (h : Happening) (since : List Happen
 only_older P h since never (inl p) = absurd (never p)
 only_older P h since never (inr some) = some
 
-pub held_on : (tuple : FiveTuple) (user number first : ℕ) (dest : Endpoint) (n : ℕ) (h : Happening) (since : List Happening) (state after : State) → Grants_nothing tuple user number dest n h → state.clock ≤ after.clock
-    → relay_of tuple dest.ip.family after ≡ relay_of tuple dest.ip.family state → OuterStep tuple user number first dest n since state → OuterStep tuple user number first dest n (h ∷ since) after
-held_on tuple user number first dest n h since state after g le same held = record {
-  a = held.a;
-  found = same ∙ held.found;
-  user_is = held.user_is;
-  number_is = held.number_is;
-  ends = subst (λ (m : ℕ). m ≤ held.a.until) (sym (end_same tuple user dest.ip.family number first h since g.calm g.lifetime)) held.ends;
-  permits = λ some. held.permits (only_older (Permits tuple user dest.ip n) h since g.permits some);
-  soon = λ some. let s = held.soon (only_older (Permits tuple user dest.ip n) h since g.permits some) in omega (arith, le, s);
-  bound = λ channel some. held.bound channel (only_older (Binds tuple user channel dest n) h since (g.binds channel) some);
-  bound_soon = λ channel some. let s = held.bound_soon channel (only_older (Binds tuple user channel dest n) h since (g.binds channel) some) in omega (arith, le, s);
-}
+pub only_longer : (tuple : FiveTuple) (user : ℕ) (ip : Ip) (n : ℕ) (h : Happening) (since : List Happening) → (BindsTo tuple user ip n h → ⊥) → IsLong tuple user ip n (h ∷ since) → IsLong tuple user ip n since
+only_longer tuple user ip n h since never (inl b) = absurd (never b)
+only_longer tuple user ip n h since never (inr more) = more.1
+
+pub held_on : (setup : Setup) (tuple : FiveTuple) (user number first : ℕ) (dest : Endpoint) (n : ℕ) (h : Happening) (since : List Happening) (state after : State) → Grants_nothing tuple user number dest n h → state.clock ≤ after.clock
+    → relay_of tuple dest.ip.family after ≡ relay_of tuple dest.ip.family state → OuterStep setup tuple user number first dest n since state → OuterStep setup tuple user number first dest n (h ∷ since) after
+held_on setup tuple user number first dest n h since state after g le same held =
+    let never = λ (channel : ℕ) (b : Binds tuple user channel dest n h). g.binds (record { channel = channel; peer = dest; ip_is = refl; binds = b }) in record {
+      a = held.a;
+      found = same ∙ held.found;
+      user_is = held.user_is;
+      number_is = held.number_is;
+      ends = subst (λ (m : ℕ). m ≤ held.a.until) (sym (end_same tuple user dest.ip.family number first h since g.calm g.lifetime)) held.ends;
+      permits = λ some. held.permits (only_older (Permits tuple user dest.ip n) h since g.permits some);
+      soon = λ some. let s = held.soon (only_older (Permits tuple user dest.ip n) h since g.permits some) in omega (arith, le, s);
+      permits_long = λ on some. held.permits_long on (only_longer tuple user dest.ip n h since g.binds some);
+      long_soon = λ some. let s = held.long_soon (only_longer tuple user dest.ip n h since g.binds some) in omega (arith, le, s);
+      bound = λ channel some. held.bound channel (only_older (Binds tuple user channel dest n) h since (never channel) some);
+      bound_soon = λ channel some. let s = held.bound_soon channel (only_older (Binds tuple user channel dest n) h since (never channel) some) in omega (arith, le, s);
+    }
 
 -- what is found and kept is found
 pub find_kept : {X : Type 0} (test keep : X → Bool) (xs : List X) (a : X) → find test xs ≡ Some a → keep a ≡ true → find test (filter keep xs) ≡ Some a
@@ -133,9 +146,9 @@ find_kept test keep (x ∷ xs) a is kept =
     cond_both (keep x) (x ∷ filter keep xs) (filter keep xs) (λ l. find test l ≡ Some a) (λ _. cond-false (test x) (Some x) (find test (filter keep xs)) other ∙ more) (λ _. more)) is
 
 -- time goes on
-pub held_at : (tuple : FiveTuple) (user number first : ℕ) (dest : Endpoint) (n : ℕ) (since : List Happening) (state : State) (now : ℕ) → max state.clock now < end_of tuple user dest.ip.family number first since → OuterStep tuple user number first dest n since state
-    → OuterStep tuple user number first dest n since (at now state)
-held_at tuple user number first dest n since state now kept held =
+pub held_at : (setup : Setup) (tuple : FiveTuple) (user number first : ℕ) (dest : Endpoint) (n : ℕ) (since : List Happening) (state : State) (now : ℕ) → max state.clock now < end_of tuple user dest.ip.family number first since → OuterStep setup tuple user number first dest n since state
+    → OuterStep setup tuple user number first dest n since (at now state)
+held_at setup tuple user number first dest n since state now kept held =
     let ends = held.ends in record {
       a = held.a;
       found = find_kept (is_for tuple dest.ip.family) (is_live (max state.clock now)) state.relays held.a held.found (lt-ltb (max state.clock now) held.a.until (omega (arith, kept, ends)));
@@ -144,6 +157,8 @@ held_at tuple user number first dest n since state now kept held =
       ends = held.ends;
       permits = held.permits;
       soon = λ some. let s = held.soon some in omega (arith, s);
+      permits_long = held.permits_long;
+      long_soon = λ some. let s = held.long_soon some in omega (arith, s);
       bound = held.bound;
       bound_soon = λ channel some. let s = held.bound_soon channel some in omega (arith, s);
     }
@@ -155,13 +170,21 @@ by_ip true true rest e f = refl
 by_ip true false rest e f = absurd (false≢true e)
 by_ip false lasts rest e f = f refl
 
-one_stays : (c n : ℕ) (ip new : Ip) (ps : List Permission) → c ≤ n → n < c + seconds 300 → list_any (is_permission n ip) ps ≡ true → list_any (is_permission n ip) (with_permission c new ps) ≡ true
-one_stays c n ip new ps le soon any =
-    by_ip (is_ip ip new) (nat_lt n (c + seconds 300)) (list_any (is_permission n ip) (filter (is_other_permission c new) ps)) (lt-ltb n (c + seconds 300) soon) (λ differ. others_left c n ip new ps le differ ∙ any)
+pub one_stays : (lifetime c n : ℕ) (ip new : Ip) (ps : List Permission) → c ≤ n → n < c + seconds lifetime → list_any (is_permission n ip) ps ≡ true → list_any (is_permission n ip) (with_permission_for lifetime c new ps) ≡ true
+one_stays lifetime c n ip new ps le soon any =
+    by_ip (is_ip ip new) (nat_lt n (c + seconds lifetime)) (list_any (is_permission n ip) (filter (is_other_permission c new) ps)) (lt-ltb n (c + seconds lifetime) soon) (λ differ. others_left c n ip new ps le differ ∙ any)
 
 pub all_stay : (c n : ℕ) (ip : Ip) (peers : List Endpoint) (ps : List Permission) → c ≤ n → n < c + seconds 300 → list_any (is_permission n ip) ps ≡ true → list_any (is_permission n ip) (with_permissions c peers ps) ≡ true
 all_stay c n ip [] ps le soon any = any
-all_stay c n ip (peer ∷ peers) ps le soon any = one_stays c n ip peer.ip (with_permissions c peers ps) le soon (all_stay c n ip peers ps le soon any)
+all_stay c n ip (peer ∷ peers) ps le soon any = one_stays 300 c n ip peer.ip (with_permissions c peers ps) le soon (all_stay c n ip peers ps le soon any)
+
+-- of other peers
+pub all_left : (c n : ℕ) (ip : Ip) (peers : List Endpoint) (ps : List Permission) → c ≤ n → list_any (λ p. is_ip ip p.ip) peers ≡ false → list_any (is_permission n ip) (with_permissions c peers ps) ≡ list_any (is_permission n ip) ps
+all_left c n ip [] ps le none = refl
+all_left c n ip (peer ∷ peers) ps le none =
+    let parts = or_parts (is_ip ip peer.ip) (list_any (λ p. is_ip ip p.ip) peers) none in
+    ap (λ (b : Bool). (b && nat_lt n (c + seconds 300)) || list_any (is_permission n ip) (filter (is_other_permission c peer.ip) (with_permissions c peers ps))) parts.0
+    ∙ (others_left c n ip peer.ip (with_permissions c peers ps) le parts.0 ∙ all_left c n ip peers ps le parts.1)
 
 -- who is named is among the peers of the family
 pub among : (ip : Ip) (a : Relay) (peers : List Endpoint) → ip.family ≡ a.family → list_any (λ p. is_ip ip p.ip) peers ≡ true → list_any (λ p. is_ip ip p.ip) (peers_of a peers) ≡ true

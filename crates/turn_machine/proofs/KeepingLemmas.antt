@@ -5,7 +5,7 @@ use Rattle.std.specs.Prelude.{◌==◌}
 use Rattle.std.proofs.lemmas.Bool.{cond_both, false≢true}
 use Rattle.stun_endpoints.specs.declared.endpoints.Endpoint.{Endpoint}
 use Rattle.stun_endpoints.specs.declared.endpoints.FiveTuple.{FiveTuple}
-use Rattle.turn_machine.specs.Relays.{seconds, Relay, Setup, Rules, State, is_users, is_owned, is_at}
+use Rattle.turn_machine.specs.Relays.{seconds, Relay, Setup, Rules, State, is_users, is_owned, is_at, bound_for}
 use Rattle.turn_machine.specs.Events.{Offer, Want, Request, allocate, unfit_allocate, refresh, permit, bind, unfit, Event, asks, sends, sends_on, arrives, bounces, ends, ends_user, ticks, refreshed, answers}
 use Rattle.turn_machine.specs.Times.{at, granted_for, refreshed_for}
 use Rattle.turn_machine.specs.Opening.{with_relay, can_open, opens_one, opens}
@@ -23,7 +23,7 @@ pub record Keeps (setup : Setup) (Who : ℕ → Type 0) (Q : State → Type 0) :
   pub ended : (test : Relay → Bool) (state : State) → Q state → Q (without test state)
   pub lasted : (tuple : FiveTuple) (user : ℕ) (family : Option ℕ) (until : ℕ) (state : State) → state.clock < until → Q state → Q (changed tuple user (lasting family until) state)
   pub permitted : (rules : Rules) (tuple : FiveTuple) (user : ℕ) (peers : List Endpoint) (state : State) → fault setup rules state tuple user (permit peers) ≡ None → Q state → Q (changed tuple user (permitting state.clock peers) state)
-  pub bound : (rules : Rules) (tuple : FiveTuple) (user number : ℕ) (peer : Endpoint) (state : State) → fault setup rules state tuple user (bind number peer) ≡ None → Q state → Q (changed tuple user (binding state.clock number peer) state)
+  pub bound : (rules : Rules) (tuple : FiveTuple) (user number : ℕ) (peer : Endpoint) (state : State) → fault setup rules state tuple user (bind number peer) ≡ None → Q state → Q (changed tuple user (binding (bound_for setup) state.clock number peer) state)
 
 -- ---- Lifetimes
 

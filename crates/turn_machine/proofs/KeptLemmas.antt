@@ -2,12 +2,12 @@
 use Rattle.std.proofs.Common.{◌≡◌, ℕ, ◌+◌, ◌<◌, ◌≤◌, Bool, true, false, not, cond, List, [], ◌∷◌, length, Option, refl, sym, ap, subst, ltb-true, ltb-false, zero-le, eqb-true, arith}
 use Rattle.std.specs.List.{AllByRecursion}
 use Rattle.std.specs.Prelude.{◌==◌, ◌&&◌, max, count_by, nat_lt}
-use Rattle.std.proofs.lemmas.Bool.{cond_both, false≢true}
+use Rattle.std.proofs.lemmas.Bool.{cond_both, cond-true, false≢true}
 use Rattle.stun_endpoints.specs.declared.endpoints.Endpoint.{Endpoint}
 use Rattle.stun_endpoints.specs.declared.endpoints.FiveTuple.{FiveTuple}
-use Rattle.turn_machine.specs.Relays.{Relay, Setup, State, is_live, is_users, is_owned}
+use Rattle.turn_machine.specs.Relays.{Relay, Setup, State, is_live, is_users, is_owned, bound_for}
 use Rattle.turn_machine.specs.Opening.{opened}
-use Rattle.turn_machine.specs.Rows.{permissions_after, with_channel, lacks_permissions, lacks_channels}
+use Rattle.turn_machine.specs.Rows.{with_permission_for, with_permissions, permissions_after, with_channel, lacks_permissions, lacks_channels}
 use Rattle.turn_machine.specs.Steps.{changed, is_wanted, lasting, permitting, binding}
 use Rattle.turn_machine.specs.Runs.{Timed, run}
 use Rattle.turn_machine.specs.Bounds.{IsWithin}
@@ -27,11 +27,11 @@ his_same f tuple user change same a = cond_both (is_owned tuple user a) (change 
 pub lasting_same : {X : Type 0} (f : Relay → X) (family : Option ℕ) (until : ℕ) → ((a : Relay) → f (record a { until = until }) ≡ f a) → (a : Relay) → f (lasting family until a) ≡ f a
 lasting_same f family until same a = cond_both (is_wanted family a) (record a { until = until }) a (λ b. f b ≡ f a) (λ _. same a) (λ _. refl)
 
-abbrev pub bound_after : ℕ → (number : ℕ) → Endpoint → Relay → Relay
-bound_after now number peer a = record a { permissions = permissions_after now (peer ∷ []) a; channels = with_channel now number peer a.channels }
+abbrev pub bound_after : (lifetime now number : ℕ) → Endpoint → Relay → Relay
+bound_after lifetime now number peer a = record a { permissions = with_permission_for lifetime now peer.ip a.permissions; channels = with_channel now number peer a.channels }
 
-pub binding_same : {X : Type 0} (f : Relay → X) (now number : ℕ) (peer : Endpoint) → ((a : Relay) → f (bound_after now number peer a) ≡ f a) → (a : Relay) → f (binding now number peer a) ≡ f a
-binding_same f now number peer same a = cond_both (peer.ip.family == a.family) (bound_after now number peer a) a (λ b. f b ≡ f a) (λ _. same a) (λ _. refl)
+pub binding_same : {X : Type 0} (f : Relay → X) (lifetime now number : ℕ) (peer : Endpoint) → ((a : Relay) → f (bound_after lifetime now number peer a) ≡ f a) → (a : Relay) → f (binding lifetime now number peer a) ≡ f a
+binding_same f lifetime now number peer same a = cond_both (peer.ip.family == a.family) (bound_after lifetime now number peer a) a (λ b. f b ≡ f a) (λ _. same a) (λ _. refl)
 
 -- ---- What is kept is live
 
@@ -48,8 +48,8 @@ live_kept setup = record {
       (λ a _ l. cond_both (is_wanted family a) (record a { until = until }) a (λ (b : Relay). state.clock < b.until) (λ _. later) (λ _. l)) each;
   permitted = λ rules tuple user peers state fit each. each_changed (λ a. state.clock < a.until) (λ a. state.clock < a.until) tuple user (permitting state.clock peers) state (λ a l. l) (λ a _ l. l) each;
   bound = λ rules tuple user number peer state fit each.
-      each_changed (λ a. state.clock < a.until) (λ a. state.clock < a.until) tuple user (binding state.clock number peer) state (λ a l. l)
-      (λ a _ l. subst (λ n. state.clock < n) (sym (binding_same (λ b. b.until) state.clock number peer (λ _. refl) a)) l) each;
+      each_changed (λ a. state.clock < a.until) (λ a. state.clock < a.until) tuple user (binding (bound_for setup) state.clock number peer) state (λ a l. l)
+      (λ a _ l. subst (λ n. state.clock < n) (sym (binding_same (λ b. b.until) (bound_for setup) state.clock number peer (λ _. refl) a)) l) each;
 }
 
 pub run_live : (setup : Setup) (events : List Timed) → IsLive (run setup events)
@@ -64,7 +64,7 @@ short_kept setup = record {
   ended = λ test state short. let fewer = length_filter (λ a. not (test a)) state.relays in omega (arith, short, fewer);
   lasted = λ tuple user family until state later short. subst (λ n. n ≤ setup.most_relays) (sym (length_map (λ a. cond (is_owned tuple user a) (lasting family until a) a) state.relays)) short;
   permitted = λ rules tuple user peers state fit short. subst (λ n. n ≤ setup.most_relays) (sym (length_map (λ a. cond (is_owned tuple user a) (permitting state.clock peers a) a) state.relays)) short;
-  bound = λ rules tuple user number peer state fit short. subst (λ n. n ≤ setup.most_relays) (sym (length_map (λ a. cond (is_owned tuple user a) (binding state.clock number peer a) a) state.relays)) short;
+  bound = λ rules tuple user number peer state fit short. subst (λ n. n ≤ setup.most_relays) (sym (length_map (λ a. cond (is_owned tuple user a) (binding (bound_for setup) state.clock number peer a) a) state.relays)) short;
 }
 
 pub run_short : (setup : Setup) (events : List Timed) → length (run setup events).relays ≤ setup.most_relays
@@ -78,6 +78,10 @@ fits_in_family : (his family : Bool) (most n : ℕ) → his ≡ true → family 
 fits_in_family true true most n is of lacks = ltb-false most n lacks
 fits_in_family true false most n is of lacks = absurd (false≢true of)
 fits_in_family false family most n is of lacks = absurd (false≢true is)
+
+-- one more permission takes the same room, however long it lasts
+bound_length : (lifetime now : ℕ) (peer : Endpoint) (a : Relay) → (peer.ip.family == a.family) ≡ true → length (permissions_after now (peer ∷ []) a) ≡ length (with_permission_for lifetime now peer.ip a.permissions)
+bound_length lifetime now peer a of = ap (λ (l : List Endpoint). length (with_permissions now l a.permissions)) (cond-true (peer.ip.family == a.family) (peer ∷ []) [] of)
 
 within_kept : (setup : Setup) → Keeps setup Anyone (λ state. AllByRecursion (IsWithin setup) state.relays)
 within_kept setup = record {
@@ -99,10 +103,10 @@ within_kept setup = record {
       let lacks_one = lacks_channels setup state.clock tuple user number peer in
       let Both = λ (a : Relay). (lacks a ≡ false) × (lacks_one a ≡ false) in
       let room = each_both (λ a. lacks a ≡ false) (λ a. lacks_one a ≡ false) Both (λ a one other. (one, other)) state.relays (any_none lacks state.relays fits.permissions) (any_none lacks_one state.relays fits.channels) in
-      each_changed (λ a. IsWithin setup a × Both a) (IsWithin setup) tuple user (binding state.clock number peer) state (λ a w. w.0)
-      (λ a his w. cond_both (peer.ip.family == a.family) (bound_after state.clock number peer a) a (IsWithin setup)
+      each_changed (λ a. IsWithin setup a × Both a) (IsWithin setup) tuple user (binding (bound_for setup) state.clock number peer) state (λ a w. w.0)
+      (λ a his w. cond_both (peer.ip.family == a.family) (bound_after (bound_for setup) state.clock number peer a) a (IsWithin setup)
       (λ of. record {
-        permissions = fits_in (is_owned tuple user a) setup.most_permissions (length (permissions_after state.clock (peer ∷ []) a)) his w.1.0;
+        permissions = subst (λ n. n ≤ setup.most_permissions) (bound_length (bound_for setup) state.clock peer a of) (fits_in (is_owned tuple user a) setup.most_permissions (length (permissions_after state.clock (peer ∷ []) a)) his w.1.0);
         channels = fits_in_family (is_owned tuple user a) (peer.ip.family == a.family) setup.most_channels (length (with_channel state.clock number peer a.channels)) his of w.1.1;
       }) (λ _. w.0))
       (each_both (IsWithin setup) Both (λ a. IsWithin setup a × Both a) (λ a one other. (one, other)) state.relays each room);
@@ -137,7 +141,7 @@ quota_kept setup = record {
   ended = λ test state within user. let fewer = count_filter (is_users user) (λ a. not (test a)) state.relays in let w = within user in omega (arith, w, fewer);
   lasted = λ tuple user family until state later within. counted_same setup tuple user (lasting family until) state (lasting_same (λ b. b.user) family until (λ _. refl)) within;
   permitted = λ rules tuple user peers state fit within. counted_same setup tuple user (permitting state.clock peers) state (λ _. refl) within;
-  bound = λ rules tuple user number peer state fit within. counted_same setup tuple user (binding state.clock number peer) state (binding_same (λ b. b.user) state.clock number peer (λ _. refl)) within;
+  bound = λ rules tuple user number peer state fit within. counted_same setup tuple user (binding (bound_for setup) state.clock number peer) state (binding_same (λ b. b.user) (bound_for setup) state.clock number peer (λ _. refl)) within;
 }
 
 pub run_quota : (setup : Setup) (events : List Timed) → IsWithinQuota setup (run setup events)

@@ -4,7 +4,7 @@ use Rattle.std.specs.List.{AllByRecursion, list_any, list_all}
 use Rattle.std.specs.Prelude.{count_by, ◌&&◌, ◌⊎◌}
 use Rattle.std.proofs.lemmas.Bool.{cond_both, cond-true, cond-false, and_parts, or_left, or_right, or_cases, or_parts, false≢true}
 use Rattle.std.proofs.lemmas.List.Sums.{length-filter, sum_by-cons}
-use Rattle.turn_machine.specs.Lists.{SomeOf}
+use Rattle.turn_machine.specs.Lists.{SomeOf, SomeSince}
 
 pub each_map : {X : Type 0} (P Q : X → Type 0) → ((x : X) → P x → Q x) → (xs : List X) → AllByRecursion P xs → AllByRecursion Q xs
 each_map P Q f [] each = each
@@ -67,6 +67,15 @@ any_some test (x ∷ xs) any = elim (or_cases (test x) (list_any test xs) any) [
   | inr more ↦ inr (any_some test xs more)
 ]
 
+pub any_filter : {X : Type 0} (test keep : X → Bool) (xs : List X) → list_any test (filter keep xs) ≡ true → list_any test xs ≡ true
+any_filter test keep [] any = any
+any_filter test keep (x ∷ xs) any =
+    cond_both (keep x) (x ∷ filter keep xs) (filter keep xs) (λ l. list_any test l ≡ true → list_any test (x ∷ xs) ≡ true)
+    (λ _ e. elim (or_cases (test x) (list_any test (filter keep xs)) e) [
+      | inl is ↦ or_left (test x) (list_any test xs) is
+      | inr more ↦ or_right (test x) (list_any test xs) (any_filter test keep xs more)
+    ]) (λ _ e. or_right (test x) (list_any test xs) (any_filter test keep xs e)) any
+
 pub some_map : {X : Type 0} (P Q : X → Type 0) → ((x : X) → P x → Q x) → (xs : List X) → SomeOf P xs → SomeOf Q xs
 some_map P Q f [] some = absurd some
 some_map P Q f (x ∷ xs) (inl is) = inl (f x is)
@@ -77,6 +86,11 @@ pub some_both : {X : Type 0} (P Q R : X → Type 0) → ((x : X) → P x → Q x
 some_both P Q R f [] each some = absurd some
 some_both P Q R f (x ∷ xs) each (inl is) = inl (f x each.0 is)
 some_both P Q R f (x ∷ xs) each (inr more) = inr (some_both P Q R f xs each.1 more)
+
+pub since_both : {X : Type 0} (P Q R S : X → Type 0) → ((x : X) → P x → Q x → R x) → (xs : List X) → AllByRecursion P xs → SomeSince Q S xs → SomeSince R S xs
+since_both P Q R S f [] each some = absurd some
+since_both P Q R S f (x ∷ xs) each (inl is) = inl (f x each.0 is)
+since_both P Q R S f (x ∷ xs) each (inr more) = inr (more.0, since_both P Q R S f xs each.1 more.1)
 
 pub all_each : {X : Type 0} (test : X → Bool) (xs : List X) → list_all test xs ≡ true → AllByRecursion (λ x. test x ≡ true) xs
 all_each test [] all = tt

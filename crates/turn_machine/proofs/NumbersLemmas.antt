@@ -7,7 +7,7 @@ use Rattle.std.proofs.lemmas.Bool.{cond_both, false≢true}
 use Rattle.stun_endpoints.specs.declared.endpoints.Endpoint.{Endpoint}
 use Rattle.stun_endpoints.specs.declared.endpoints.FiveTuple.{FiveTuple}
 use Rattle.turn_machine.specs.Lists.{SomeOf, times}
-use Rattle.turn_machine.specs.Relays.{seconds, Relay, Setup, Rules, State, is_live, is_of, is_users, is_owned, is_at}
+use Rattle.turn_machine.specs.Relays.{seconds, Relay, Setup, Rules, State, is_live, is_of, is_users, is_owned, is_at, bound_for}
 use Rattle.turn_machine.specs.Events.{Offer, Want, Given, Request, allocate, unfit_allocate, refresh, permit, bind, unfit, Event, asks, sends, sends_on, arrives, bounces, ends, ends_user, ticks, allocated, refreshed, Output, answers, nothing}
 use Rattle.turn_machine.specs.Times.{at, numbers, over_at, granted_for, refreshed_for, left_of}
 use Rattle.turn_machine.specs.Opening.{number_for, opened, with_relay, opens_one, opens, given_to, missing_to, allocation_answer}
@@ -119,7 +119,7 @@ fulfil_once k setup tuple user (refresh family lifetime) state closed is =
 fulfil_once k setup tuple user (permit peers) state closed is =
     once_saved k state (changed tuple user (permitting state.clock peers) state) [] closed (saves_changed tuple user (permitting state.clock peers) state (λ _. refl)) is
 fulfil_once k setup tuple user (bind number peer) state closed is =
-    once_saved k state (changed tuple user (binding state.clock number peer) state) [] closed (saves_changed tuple user (binding state.clock number peer) state (binding_same (λ b. b.number) state.clock number peer (λ _. refl))) is
+    once_saved k state (changed tuple user (binding (bound_for setup) state.clock number peer) state) [] closed (saves_changed tuple user (binding (bound_for setup) state.clock number peer) state (binding_same (λ b. b.number) (bound_for setup) state.clock number peer (λ _. refl))) is
 fulfil_once k setup tuple user (unfit code) state closed is = is
 
 happens_once : (k : ℕ → ℕ) (setup : Setup) (rules : Rules) (state : State) (event : Event) (closed : List ℕ) → IsOnce k state closed → StepOnce k closed (happens setup rules state event)

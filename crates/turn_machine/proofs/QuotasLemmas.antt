@@ -4,7 +4,7 @@ use Rattle.std.specs.List.{AllByRecursion, list_any}
 use Rattle.std.specs.Prelude.{◌==◌, ◌||◌, ◌&&◌, max, count_by, is_some, ◌⊎◌}
 use Rattle.std.proofs.lemmas.Bool.{or_cases, false≢true, lt-ltb}
 use Rattle.stun_endpoints.specs.declared.endpoints.FiveTuple.{FiveTuple}
-use Rattle.turn_machine.specs.Relays.{Relay, Setup, Rules, State, is_live, is_users, has_room, has_quota}
+use Rattle.turn_machine.specs.Relays.{Relay, Setup, Rules, State, is_live, is_users, has_room, has_quota, bound_for}
 use Rattle.turn_machine.specs.Events.{Offer, Want, allocate, asks, answers, refused}
 use Rattle.turn_machine.specs.Times.{at}
 use Rattle.turn_machine.specs.Rows.{row, has_any, is_offered, is_ready, allocate_rows}
@@ -31,8 +31,8 @@ of_kept setup users = record {
   lasted = λ tuple user family until state later each. each_changed (λ a. IsOneOf users a.user) (λ a. IsOneOf users a.user) tuple user (lasting family until) state (λ a w. w)
       (λ a _ w. subst (IsOneOf users) (sym (lasting_same (λ b. b.user) family until (λ _. refl) a)) w) each;
   permitted = λ rules tuple user peers state fit each. each_changed (λ a. IsOneOf users a.user) (λ a. IsOneOf users a.user) tuple user (permitting state.clock peers) state (λ a w. w) (λ a _ w. w) each;
-  bound = λ rules tuple user number peer state fit each. each_changed (λ a. IsOneOf users a.user) (λ a. IsOneOf users a.user) tuple user (binding state.clock number peer) state (λ a w. w)
-      (λ a _ w. subst (IsOneOf users) (sym (binding_same (λ b. b.user) state.clock number peer (λ _. refl) a)) w) each;
+  bound = λ rules tuple user number peer state fit each. each_changed (λ a. IsOneOf users a.user) (λ a. IsOneOf users a.user) tuple user (binding (bound_for setup) state.clock number peer) state (λ a w. w)
+      (λ a _ w. subst (IsOneOf users) (sym (binding_same (λ b. b.user) (bound_for setup) state.clock number peer (λ _. refl) a)) w) each;
 }
 
 -- ---- The sum of what the users have

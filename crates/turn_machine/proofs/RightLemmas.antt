@@ -1,5 +1,5 @@
 -- Each output is warranted, if the state rests on what has happened.
-use Rattle.std.proofs.Common.{lt_of_lt_of_le, ◌≡◌, ℕ, ◌+◌, ◌<◌, ◌≤◌, inl, inr, Bool, true, false, not, List, [], ◌∷◌, ◌++◌, find, refl, sym, subst, eqb-true, ltb-true, arith}
+use Rattle.std.proofs.Common.{lt_of_lt_of_le, ◌≡◌, ℕ, ◌+◌, ◌<◌, ◌≤◌, ◌⊎◌, inl, inr, Bool, true, false, not, List, [], ◌∷◌, ◌++◌, find, refl, sym, subst, eqb-true, ltb-true, arith}
 use Rattle.std.specs.List.{AllByRecursion, list_any}
 use Rattle.std.specs.Option.{option_map_or}
 use Rattle.std.specs.Prelude.{◌==◌, ◌&&◌, ◌||◌, max, nat_lt}
@@ -8,7 +8,7 @@ use Rattle.stun_endpoints.specs.declared.endpoints.Ip.{Ip}
 use Rattle.stun_endpoints.specs.declared.endpoints.Endpoint.{Endpoint}
 use Rattle.stun_endpoints.specs.declared.endpoints.FiveTuple.{FiveTuple}
 use Rattle.stun_endpoints.specs.Endpoints.{is_ip, is_endpoint}
-use Rattle.turn_machine.specs.Lists.{SomeOf}
+use Rattle.turn_machine.specs.Lists.{SomeOf, SomeSince}
 use Rattle.turn_machine.specs.Relays.{seconds, Permission, Channel, Relay, Setup, Rules, State, is_owned, is_live, is_of, is_for, is_at, is_permission, is_permitted, is_channel, is_channel_of}
 use Rattle.turn_machine.specs.Events.{Icmp, Request, allocate, unfit_allocate, refresh, permit, bind, unfit, refreshed, done, refused, Event, asks, sends, sends_on, arrives, bounces, ends, ends_user, ticks, Answer, Output, answers, to_peer, to_client, to_client_icmp, nothing}
 use Rattle.turn_machine.specs.Times.{at, refreshed_for, left_of}
@@ -16,10 +16,10 @@ use Rattle.turn_machine.specs.Opening.{allocation_answer}
 use Rattle.turn_machine.specs.Data.{allows, sent, sent_by, sent_on, has_channel, by_channel, received, is_passed, bounced}
 use Rattle.turn_machine.specs.Steps.{changed, closing, is_wanted, lasting, keeping, fulfils, is_again, answers_again, serves, step}
 use Rattle.turn_machine.specs.Runs.{Timed, Happening, run, happening, history}
-use Rattle.turn_machine.specs.Warrants.{Opens, end_of, Permits, Binds, ArePermitting, AreBinding, IsWarranted, IsRight}
+use Rattle.turn_machine.specs.Warrants.{Opens, end_of, Permits, Binds, BindsTo, Renews, ArePermitting, AreBinding, IsWarranted, IsRight}
 use Rattle.turn_machine.proofs.AddressesLemmas.{ip_same, endpoint_same, tuple_same}
-use Rattle.turn_machine.proofs.ListsLemmas.{each_map, each_filtered, found, some_both}
-use Rattle.turn_machine.proofs.Backed.{Installs, Attaches, IsInstalled, IsAttached, IsBacked}
+use Rattle.turn_machine.proofs.ListsLemmas.{each_map, each_filtered, found, some_both, since_both}
+use Rattle.turn_machine.proofs.Backed.{Installs, Attaches, AttachesTo, AreInstalling, IsInstalled, IsAttached, IsBacked}
 use Rattle.turn_machine.proofs.BackedLemmas.{run_backed}
 use Rattle.turn_machine.proofs.KeepingLemmas.{Keeps, Anyone, happens_keeps, by_anyone}
 use Rattle.turn_machine.proofs.CasesLemmas.{serve_cases}
@@ -66,24 +66,38 @@ permits_on tuple user ip n until lasts h came g = record {
 binds_on : (tuple : FiveTuple) (user number : ℕ) (peer : Endpoint) (n until : ℕ) → n < until → (h : Happening) → h.moment ≤ n → Attaches tuple user number peer until h → Binds tuple user number peer n h
 binds_on tuple user number peer n until lasts h came g = record { asked = g.asked; allowed = g.allowed; succeeded = g.succeeded; came = came; lasts = subst (λ (m : ℕ). n < m) (sym g.ends) lasts }
 
+binds_to : (tuple : FiveTuple) (user : ℕ) (ip : Ip) (n until : ℕ) → n < until → (h : Happening) → h.moment ≤ n → AttachesTo tuple user ip until h → BindsTo tuple user ip n h
+binds_to tuple user ip n until lasts h came g = record { channel = g.channel; peer = g.peer; ip_is = g.ip_is; binds = binds_on tuple user g.channel g.peer n until lasts h came g.attaches }
+
+-- `ArePermitting`, for an IP address
+abbrev AreLetting : Setup → FiveTuple → (user : ℕ) → Ip → (n : ℕ) → List Happening → Type 0
+AreLetting setup tuple user ip n since =
+    SomeOf (Permits tuple user ip n) since ⊎ ((setup.channel_permits ≡ true) × SomeSince (BindsTo tuple user ip n) (λ h. ¬ (Renews tuple user ip h)) since)
+
+are_letting : (setup : Setup) (tuple : FiveTuple) (user : ℕ) (ip : Ip) (n until : ℕ) (since : List Happening) → n < until → AllByRecursion (λ h. h.moment ≤ n) since → AreInstalling setup tuple user ip until since → AreLetting setup tuple user ip n since
+are_letting setup tuple user ip n until since lasts came by = elim by [
+  | inl some ↦ inl (some_both (λ h. h.moment ≤ n) (Installs tuple user ip until) (Permits tuple user ip n) (λ h c g. permits_on tuple user ip n until lasts h c g) since came some)
+  | inr long ↦ inr (long.0, since_both (λ h. h.moment ≤ n) (AttachesTo tuple user ip until) (BindsTo tuple user ip n) (λ h. ¬ (Renews tuple user ip h)) (λ h c g. binds_to tuple user ip n until lasts h c g) since came long.1)
+]
+
 -- what is asked for, and of the relayed address's family
-record IsLetIn (since : List Happening) (tuple : FiveTuple) (user family n : ℕ) (ip : Ip) : Type 0 where
-  asked : SomeOf (Permits tuple user ip n) since
+record IsLetIn (setup : Setup) (since : List Happening) (tuple : FiveTuple) (user family n : ℕ) (ip : Ip) : Type 0 where
+  asked : AreLetting setup tuple user ip n since
   family_is : ip.family ≡ family
 
-permitted : (since : List Happening) (tuple : FiveTuple) (user family n : ℕ) (ip : Ip) (ps : List Permission) → AllByRecursion (λ h. h.moment ≤ n) since → AllByRecursion (IsInstalled since tuple user family) ps
-    → list_any (is_permission n ip) ps ≡ true → IsLetIn since tuple user family n ip
-permitted since tuple user family n ip [] came each any = absurd (false≢true any)
-permitted since tuple user family n ip (p ∷ ps) came each any =
+permitted : (setup : Setup) (since : List Happening) (tuple : FiveTuple) (user family n : ℕ) (ip : Ip) (ps : List Permission) → AllByRecursion (λ h. h.moment ≤ n) since → AllByRecursion (IsInstalled setup since tuple user family) ps
+    → list_any (is_permission n ip) ps ≡ true → IsLetIn setup since tuple user family n ip
+permitted setup since tuple user family n ip [] came each any = absurd (false≢true any)
+permitted setup since tuple user family n ip (p ∷ ps) came each any =
     elim (or_cases (is_permission n ip p) (list_any (is_permission n ip) ps) any) [
       | inl first ↦
           let both = and_parts (is_ip ip p.ip) (nat_lt n p.until) first in
-          subst (IsLetIn since tuple user family n) (sym (ip_same ip p.ip both.0))
+          subst (IsLetIn setup since tuple user family n) (sym (ip_same ip p.ip both.0))
           (record {
-            asked = some_both (λ h. h.moment ≤ n) (Installs tuple user p.ip p.until) (Permits tuple user p.ip n) (λ h c g. permits_on tuple user p.ip n p.until (ltb-true n p.until both.1) h c g) since came each.0.by;
+            asked = are_letting setup tuple user p.ip n p.until since (ltb-true n p.until both.1) came each.0.by;
             family_is = each.0.family_is;
           })
-      | inr more ↦ permitted since tuple user family n ip ps came each.1 more
+      | inr more ↦ permitted setup since tuple user family n ip ps came each.1 more
     ]
 
 bound_by : (since : List Happening) (tuple : FiveTuple) (user family n : ℕ) (c : Channel) → AllByRecursion (λ h. h.moment ≤ n) since → IsAttached since tuple user family c → nat_lt n c.until ≡ true → SomeOf (Binds tuple user c.number c.peer n) since
@@ -93,36 +107,36 @@ bound_by since tuple user family n c came is lasts =
 -- ---- A warrant
 
 -- what is kept at a moment, with what has happened before
-record IsGood (hs : List Happening) (n : ℕ) (a : Relay) : Type 0 where
-  backed : IsBacked hs a
+record IsGood (setup : Setup) (hs : List Happening) (n : ℕ) (a : Relay) : Type 0 where
+  backed : IsBacked setup hs a
   live : n < a.until
 
-since_of : (hs : List Happening) (n : ℕ) (a : Relay) → AllByRecursion (λ h. h.moment ≤ n) hs → (b : IsBacked hs a) → AllByRecursion (λ h. h.moment ≤ n) b.since × (b.opening.moment ≤ n)
-since_of hs n a came b = split_all (λ h. h.moment ≤ n) b.since b.opening b.before (subst (AllByRecursion (λ h. h.moment ≤ n)) b.split came)
+since_of : (setup : Setup) (hs : List Happening) (n : ℕ) (a : Relay) → AllByRecursion (λ h. h.moment ≤ n) hs → (b : IsBacked setup hs a) → AllByRecursion (λ h. h.moment ≤ n) b.since × (b.opening.moment ≤ n)
+since_of setup hs n a came b = split_all (λ h. h.moment ≤ n) b.since b.opening b.before (subst (AllByRecursion (λ h. h.moment ≤ n)) b.split came)
 
-warranted : (hs : List Happening) (n : ℕ) (tuple : FiveTuple) (number : ℕ) (peer : Endpoint) (Asked : (user : ℕ) → List Happening → Type 0) (a : Relay) (came : AllByRecursion (λ h. h.moment ≤ n) hs) (g : IsGood hs n a)
+warranted : (setup : Setup) (hs : List Happening) (n : ℕ) (tuple : FiveTuple) (number : ℕ) (peer : Endpoint) (Asked : (user : ℕ) → List Happening → Type 0) (a : Relay) (came : AllByRecursion (λ h. h.moment ≤ n) hs) (g : IsGood setup hs n a)
     → tuple ≡ a.tuple → number ≡ a.number → peer.ip.family ≡ a.family → Asked a.user g.backed.since → IsWarranted hs n tuple number peer Asked
-warranted hs n tuple number peer Asked a came g t m f asked =
+warranted setup hs n tuple number peer Asked a came g t m f asked =
     let b = g.backed in
     let pair = subst (λ (k : ℕ). (o : Opens a.tuple a.user k a.number b.opening) × (n < end_of a.tuple a.user k a.number (b.opening.moment + seconds o.granted) b.since)) (sym f) (b.opens, lt_of_lt_of_le g.live b.kept) in
     subst (λ (x : FiveTuple). IsWarranted hs n x number peer Asked) (sym t)
     (subst (λ (k : ℕ). IsWarranted hs n a.tuple k peer Asked) (sym m)
-    (record { user = a.user; since = b.since; opening = b.opening; before = b.before; split = b.split; opens = pair.0; came = (since_of hs n a came b).1; kept = pair.1; asked = asked }))
+    (record { user = a.user; since = b.since; opening = b.opening; before = b.before; split = b.split; opens = pair.0; came = (since_of setup hs n a came b).1; kept = pair.1; asked = asked }))
 
 -- ---- Data from a client
 
-let_in : (hs : List Happening) (n : ℕ) (a : Relay) (ip : Ip) → AllByRecursion (λ h. h.moment ≤ n) hs → (g : IsGood hs n a) → is_permitted n ip a ≡ true → IsLetIn g.backed.since a.tuple a.user a.family n ip
-let_in hs n a ip came g any = permitted g.backed.since a.tuple a.user a.family n ip a.permissions (since_of hs n a came g.backed).0 g.backed.permissions any
+let_in : (setup : Setup) (hs : List Happening) (n : ℕ) (a : Relay) (ip : Ip) → AllByRecursion (λ h. h.moment ≤ n) hs → (g : IsGood setup hs n a) → is_permitted n ip a ≡ true → IsLetIn setup g.backed.since a.tuple a.user a.family n ip
+let_in setup hs n a ip came g any = permitted setup g.backed.since a.tuple a.user a.family n ip a.permissions (since_of setup hs n a came g.backed).0 g.backed.permissions any
 
 -- what a permission asks for is of the client whose 5-tuple this is
-asked_as : (tuple : FiveTuple) (a : Relay) (n user : ℕ) (peer : Endpoint) (since : List Happening) → tuple ≡ a.tuple → SomeOf (Permits a.tuple user peer.ip n) since → ArePermitting tuple peer n user since
-asked_as tuple a n user peer since t some = subst (λ (x : FiveTuple). SomeOf (Permits x user peer.ip n) since) (sym t) some
+asked_as : (setup : Setup) (tuple : FiveTuple) (a : Relay) (n user : ℕ) (peer : Endpoint) (since : List Happening) → tuple ≡ a.tuple → ArePermitting setup a.tuple peer n user since → ArePermitting setup tuple peer n user since
+asked_as setup tuple a n user peer since t some = subst (λ (x : FiveTuple). ArePermitting setup x peer n user since) (sym t) some
 
 whole_kept : (dont_fragment keeps : Bool) → (not dont_fragment || keeps) ≡ true → dont_fragment ≡ true → keeps ≡ true
 whole_kept true keeps e is = e
 whole_kept false keeps e is = absurd (false≢true is)
 
-sent_right : (setup : Setup) (hs : List Happening) (n : ℕ) (rules : Rules) (tuple : FiveTuple) (peer : Endpoint) (dont_fragment : Bool) (bytes : List ℕ) (a : Relay) → AllByRecursion (λ h. h.moment ≤ n) hs → is_for tuple peer.ip.family a ≡ true → IsGood hs n a
+sent_right : (setup : Setup) (hs : List Happening) (n : ℕ) (rules : Rules) (tuple : FiveTuple) (peer : Endpoint) (dont_fragment : Bool) (bytes : List ℕ) (a : Relay) → AllByRecursion (λ h. h.moment ≤ n) hs → is_for tuple peer.ip.family a ≡ true → IsGood setup hs n a
     → IsRight setup hs n rules (sends tuple peer dont_fragment bytes) (sent setup rules n peer dont_fragment bytes a)
 sent_right setup hs n rules tuple peer dont_fragment bytes a came for g =
     let both = and_parts (is_of tuple a) (a.family == peer.ip.family) for in
@@ -131,14 +145,14 @@ sent_right setup hs n rules tuple peer dont_fragment bytes a came for g =
     (λ so.
     let one = and_parts (is_permitted n peer.ip a) (allows rules peer && (not dont_fragment || setup.supports_dont_fragment)) so in
     let two = and_parts (allows rules peer) (not dont_fragment || setup.supports_dont_fragment) one.1 in
-    let l = let_in hs n a peer.ip came g one.0 in (
+    let l = let_in setup hs n a peer.ip came g one.0 in (
       tuple,
       two.0,
-      inl (refl, whole_kept dont_fragment setup.supports_dont_fragment two.1, warranted hs n tuple a.number peer (ArePermitting tuple peer n) a came g same refl l.family_is (asked_as tuple a n a.user peer g.backed.since same l.asked)),
+      inl (refl, whole_kept dont_fragment setup.supports_dont_fragment two.1, warranted setup hs n tuple a.number peer (ArePermitting setup tuple peer n) a came g same refl l.family_is (asked_as setup tuple a n a.user peer g.backed.since same l.asked)),
     ))
     (λ _. tt)
 
-sent_by_right : (setup : Setup) (hs : List Happening) (n : ℕ) (rules : Rules) (tuple : FiveTuple) (number : ℕ) (bytes : List ℕ) (a : Relay) → AllByRecursion (λ h. h.moment ≤ n) hs → is_of tuple a ≡ true → (g : IsGood hs n a) → (c : Channel) → is_channel n number c ≡ true
+sent_by_right : (setup : Setup) (hs : List Happening) (n : ℕ) (rules : Rules) (tuple : FiveTuple) (number : ℕ) (bytes : List ℕ) (a : Relay) → AllByRecursion (λ h. h.moment ≤ n) hs → is_of tuple a ≡ true → (g : IsGood setup hs n a) → (c : Channel) → is_channel n number c ≡ true
     → IsAttached g.backed.since a.tuple a.user a.family c → IsRight setup hs n rules (sends_on tuple number bytes) (sent_by rules bytes a c)
 sent_by_right setup hs n rules tuple number bytes a came of g c test attached =
     let both = and_parts (c.number == number) (nat_lt n c.until) test in
@@ -151,15 +165,15 @@ sent_by_right setup hs n rules tuple number bytes a came of g c test attached =
         number,
         refl,
         refl,
-        warranted hs n tuple a.number c.peer (AreBinding tuple number c.peer n) a came g same refl attached.family_is
+        warranted setup hs n tuple a.number c.peer (AreBinding tuple number c.peer n) a came g same refl attached.family_is
             (subst (λ (x : FiveTuple). AreBinding x number c.peer n a.user g.backed.since) (sym same)
             (subst (λ (k : ℕ). AreBinding a.tuple k c.peer n a.user g.backed.since) (eqb-true c.number number both.0)
-            (bound_by g.backed.since a.tuple a.user a.family n c (since_of hs n a came g.backed).0 attached both.1))),
+            (bound_by g.backed.since a.tuple a.user a.family n c (since_of setup hs n a came g.backed).0 attached both.1))),
       ),
     ))
     (λ _. tt)
 
-sent_on_right : (setup : Setup) (hs : List Happening) (n : ℕ) (rules : Rules) (tuple : FiveTuple) (number : ℕ) (bytes : List ℕ) (a : Relay) → AllByRecursion (λ h. h.moment ≤ n) hs → has_channel n tuple number a ≡ true → IsGood hs n a
+sent_on_right : (setup : Setup) (hs : List Happening) (n : ℕ) (rules : Rules) (tuple : FiveTuple) (number : ℕ) (bytes : List ℕ) (a : Relay) → AllByRecursion (λ h. h.moment ≤ n) hs → has_channel n tuple number a ≡ true → IsGood setup hs n a
     → IsRight setup hs n rules (sends_on tuple number bytes) (sent_on rules n number bytes a)
 sent_on_right setup hs n rules tuple number bytes a came has g =
     found (IsAttached g.backed.since a.tuple a.user a.family) (is_channel n number) (λ o. IsRight setup hs n rules (sends_on tuple number bytes) (option_map_or (sent_by rules bytes a) o nothing)) tt a.channels
@@ -167,17 +181,17 @@ sent_on_right setup hs n rules tuple number bytes a came has g =
 
 -- ---- Data from a peer
 
-received_right : (setup : Setup) (hs : List Happening) (n : ℕ) (rules : Rules) (number : ℕ) (peer : Endpoint) (bytes : List ℕ) (a : Relay) → AllByRecursion (λ h. h.moment ≤ n) hs → is_at number a ≡ true → IsGood hs n a
+received_right : (setup : Setup) (hs : List Happening) (n : ℕ) (rules : Rules) (number : ℕ) (peer : Endpoint) (bytes : List ℕ) (a : Relay) → AllByRecursion (λ h. h.moment ≤ n) hs → is_at number a ≡ true → IsGood setup hs n a
     → IsRight setup hs n rules (arrives number peer bytes) (received rules n peer bytes a)
 received_right setup hs n rules number peer bytes a came at_it g =
     let here = sym (eqb-true a.number number at_it) in
     cond_both (is_permitted n peer.ip a && rules.allows_ip peer.ip) (option_map_or (by_channel peer bytes a) (find (is_channel_of n peer) a.channels) (to_client a.tuple peer bytes)) nothing (IsRight setup hs n rules (arrives number peer bytes))
     (λ so.
     let one = and_parts (is_permitted n peer.ip a) (rules.allows_ip peer.ip) so in
-    let l = let_in hs n a peer.ip came g one.0 in
+    let l = let_in setup hs n a peer.ip came g one.0 in
     found (IsAttached g.backed.since a.tuple a.user a.family) (is_channel_of n peer)
     (λ o. IsRight setup hs n rules (arrives number peer bytes) (option_map_or (by_channel peer bytes a) o (to_client a.tuple peer bytes)))
-    (number, refl, one.1, warranted hs n a.tuple number peer (ArePermitting a.tuple peer n) a came g refl here l.family_is l.asked)
+    (number, refl, one.1, warranted setup hs n a.tuple number peer (ArePermitting setup a.tuple peer n) a came g refl here l.family_is l.asked)
     a.channels
     (λ c test attached.
     let both = and_parts (is_endpoint c.peer peer) (nat_lt n c.until) test in (
@@ -185,12 +199,12 @@ received_right setup hs n rules number peer bytes a came at_it g =
       peer,
       refl,
       one.1,
-      warranted hs n a.tuple number peer (λ user since. ArePermitting a.tuple peer n user since × AreBinding a.tuple c.number peer n user since) a came g refl here l.family_is
-          (l.asked, subst (λ (e : Endpoint). AreBinding a.tuple c.number e n a.user g.backed.since) (endpoint_same c.peer peer both.0) (bound_by g.backed.since a.tuple a.user a.family n c (since_of hs n a came g.backed).0 attached both.1)),
+      warranted setup hs n a.tuple number peer (λ user since. ArePermitting setup a.tuple peer n user since × AreBinding a.tuple c.number peer n user since) a came g refl here l.family_is
+          (l.asked, subst (λ (e : Endpoint). AreBinding a.tuple c.number e n a.user g.backed.since) (endpoint_same c.peer peer both.0) (bound_by g.backed.since a.tuple a.user a.family n c (since_of setup hs n a came g.backed).0 attached both.1)),
     )) g.backed.channels)
     (λ _. tt)
 
-bounced_right : (setup : Setup) (hs : List Happening) (n : ℕ) (rules : Rules) (number : ℕ) (peer : Endpoint) (icmp : Icmp) (a : Relay) → AllByRecursion (λ h. h.moment ≤ n) hs → is_at number a ≡ true → IsGood hs n a
+bounced_right : (setup : Setup) (hs : List Happening) (n : ℕ) (rules : Rules) (number : ℕ) (peer : Endpoint) (icmp : Icmp) (a : Relay) → AllByRecursion (λ h. h.moment ≤ n) hs → is_at number a ≡ true → IsGood setup hs n a
     → IsRight setup hs n rules (bounces number peer icmp) (bounced setup rules n peer icmp a)
 bounced_right setup hs n rules number peer icmp a came at_it g =
     cond_both (is_permitted n peer.ip a && (rules.allows_ip peer.ip && (setup.passes_icmp && is_passed peer.ip.family icmp))) (to_client_icmp a.tuple peer icmp) nothing (IsRight setup hs n rules (bounces number peer icmp))
@@ -198,8 +212,8 @@ bounced_right setup hs n rules number peer icmp a came at_it g =
     let one = and_parts (is_permitted n peer.ip a) (rules.allows_ip peer.ip && (setup.passes_icmp && is_passed peer.ip.family icmp)) so in
     let two = and_parts (rules.allows_ip peer.ip) (setup.passes_icmp && is_passed peer.ip.family icmp) one.1 in
     let three = and_parts setup.passes_icmp (is_passed peer.ip.family icmp) two.1 in
-    let l = let_in hs n a peer.ip came g one.0 in
-    (number, refl, two.0, three.0, three.1, warranted hs n a.tuple number peer (ArePermitting a.tuple peer n) a came g refl (sym (eqb-true a.number number at_it)) l.family_is l.asked))
+    let l = let_in setup hs n a peer.ip came g one.0 in
+    (number, refl, two.0, three.0, three.1, warranted setup hs n a.tuple number peer (ArePermitting setup a.tuple peer n) a came g refl (sym (eqb-true a.number number at_it)) l.family_is l.asked))
     (λ _. tt)
 
 -- ---- Responses
@@ -235,10 +249,10 @@ serve_answers setup rules tuple user request state =
 
 -- ---- The step
 
-all_good : (setup : Setup) (events : List Timed) (now : ℕ) → AllByRecursion (IsGood (history setup events) (max (run setup events).clock now)) (at now (run setup events)).relays
+all_good : (setup : Setup) (events : List Timed) (now : ℕ) → AllByRecursion (IsGood setup (history setup events) (max (run setup events).clock now)) (at now (run setup events)).relays
 all_good setup events now =
     let n = max (run setup events).clock now in
-    each_filtered (IsBacked (history setup events)) (IsGood (history setup events) n) (is_live n) (λ a live b. record { backed = b; live = ltb-true n a.until live }) (run setup events).relays (run_backed setup events)
+    each_filtered (IsBacked setup (history setup events)) (IsGood setup (history setup events) n) (is_live n) (λ a live b. record { backed = b; live = ltb-true n a.until live }) (run setup events).relays (run_backed setup events)
 
 came_by : (setup : Setup) (events : List Timed) (now : ℕ) → AllByRecursion (λ h. h.moment ≤ max (run setup events).clock now) (history setup events)
 came_by setup events now = each_map (λ h. h.moment ≤ (run setup events).clock) (λ h. h.moment ≤ max (run setup events).clock now) (λ h le. omega (arith, le)) (history setup events) (moments_before setup events)
@@ -253,22 +267,22 @@ event_right setup earlier now rules (asks tuple user request) =
 event_right setup earlier now rules (sends tuple peer dont_fragment bytes) =
     let hs = history setup earlier in
     let n = max (run setup earlier).clock now in
-    found (IsGood hs n) (is_for tuple peer.ip.family) (λ o. IsRight setup hs n rules (sends tuple peer dont_fragment bytes) (option_map_or (sent setup rules n peer dont_fragment bytes) o nothing)) tt (at now (run setup earlier)).relays
+    found (IsGood setup hs n) (is_for tuple peer.ip.family) (λ o. IsRight setup hs n rules (sends tuple peer dont_fragment bytes) (option_map_or (sent setup rules n peer dont_fragment bytes) o nothing)) tt (at now (run setup earlier)).relays
     (λ a for g. sent_right setup hs n rules tuple peer dont_fragment bytes a (came_by setup earlier now) for g) (all_good setup earlier now)
 event_right setup earlier now rules (sends_on tuple number bytes) =
     let hs = history setup earlier in
     let n = max (run setup earlier).clock now in
-    found (IsGood hs n) (has_channel n tuple number) (λ o. IsRight setup hs n rules (sends_on tuple number bytes) (option_map_or (sent_on rules n number bytes) o nothing)) tt (at now (run setup earlier)).relays
+    found (IsGood setup hs n) (has_channel n tuple number) (λ o. IsRight setup hs n rules (sends_on tuple number bytes) (option_map_or (sent_on rules n number bytes) o nothing)) tt (at now (run setup earlier)).relays
     (λ a has g. sent_on_right setup hs n rules tuple number bytes a (came_by setup earlier now) has g) (all_good setup earlier now)
 event_right setup earlier now rules (arrives number peer bytes) =
     let hs = history setup earlier in
     let n = max (run setup earlier).clock now in
-    found (IsGood hs n) (is_at number) (λ o. IsRight setup hs n rules (arrives number peer bytes) (option_map_or (received rules n peer bytes) o nothing)) tt (at now (run setup earlier)).relays
+    found (IsGood setup hs n) (is_at number) (λ o. IsRight setup hs n rules (arrives number peer bytes) (option_map_or (received rules n peer bytes) o nothing)) tt (at now (run setup earlier)).relays
     (λ a it g. received_right setup hs n rules number peer bytes a (came_by setup earlier now) it g) (all_good setup earlier now)
 event_right setup earlier now rules (bounces number peer icmp) =
     let hs = history setup earlier in
     let n = max (run setup earlier).clock now in
-    found (IsGood hs n) (is_at number) (λ o. IsRight setup hs n rules (bounces number peer icmp) (option_map_or (bounced setup rules n peer icmp) o nothing)) tt (at now (run setup earlier)).relays
+    found (IsGood setup hs n) (is_at number) (λ o. IsRight setup hs n rules (bounces number peer icmp) (option_map_or (bounced setup rules n peer icmp) o nothing)) tt (at now (run setup earlier)).relays
     (λ a it g. bounced_right setup hs n rules number peer icmp a (came_by setup earlier now) it g) (all_good setup earlier now)
 event_right setup earlier now rules (ends number) = tt
 event_right setup earlier now rules (ends_user user) = tt

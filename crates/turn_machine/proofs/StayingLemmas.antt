@@ -8,7 +8,7 @@ use Rattle.stun_endpoints.specs.declared.endpoints.Endpoint.{Endpoint}
 use Rattle.stun_endpoints.specs.declared.endpoints.FiveTuple.{FiveTuple}
 use Rattle.stun_endpoints.specs.Endpoints.{is_tuple}
 use Rattle.turn_machine.specs.Lists.{SomeOf}
-use Rattle.turn_machine.specs.Relays.{seconds, Relay, Setup, Rules, State, is_live, is_of, is_for, is_users, is_owned, is_at}
+use Rattle.turn_machine.specs.Relays.{seconds, Relay, Setup, Rules, State, is_live, is_of, is_for, is_users, is_owned, is_at, bound_for}
 use Rattle.turn_machine.specs.Events.{Want, Given, Missing, Request, allocate, unfit_allocate, refresh, permit, bind, unfit, Event, asks, sends, sends_on, arrives, bounces, ends, ends_user, ticks, allocated, refreshed, refused, answers}
 use Rattle.turn_machine.specs.Times.{at, left_of, granted_for, refreshed_for}
 use Rattle.turn_machine.specs.Opening.{opened, opens, given_to, missing_to}
@@ -16,7 +16,7 @@ use Rattle.turn_machine.specs.Rows.{row, has_any, has_wanted, has_of_another, fa
 use Rattle.turn_machine.specs.Steps.{Step, changed, without, closing, is_wanted, lasting, permitting, binding, keeping, refreshes, fulfils, answers_again, serves, happens, step}
 use Rattle.turn_machine.specs.Runs.{Timed, Happening, run, happening, history}
 use Rattle.turn_machine.specs.Granting.{relay_of, given_of}
-use Rattle.turn_machine.specs.Warrants.{Opens, is_refresh, refreshed_in, refreshed_to, is_ended, end_of, Permits, Binds}
+use Rattle.turn_machine.specs.Warrants.{Opens, is_refresh, refreshed_in, refreshed_to, is_ended, end_of, Permits, Binds, BindsTo}
 use Rattle.turn_machine.specs.Works.{Lasted}
 use Rattle.turn_machine.specs.Warrants.{refreshes as refreshes_of}
 use Rattle.turn_machine.proofs.AddressesLemmas.{tuple_same, tuple_is_itself}
@@ -34,7 +34,7 @@ use Rattle.turn_machine.proofs.Backed.{IsBacked}
 use Rattle.turn_machine.proofs.BackedLemmas.{run_backed}
 use Rattle.turn_machine.proofs.RightLemmas.{later_kept}
 use Rattle.turn_machine.proofs.KeepingLemmas.{happens_keeps, by_anyone}
-use Rattle.turn_machine.proofs.HoldingLemmas.{IsSingle, run_single, OuterStep, only_older, held_on, find_kept, held_at}
+use Rattle.turn_machine.proofs.HoldingLemmas.{IsSingle, run_single, OuterStep, only_older, only_longer, held_on, find_kept, held_at}
 use Rattle.turn_machine.proofs.WorksLemmas.{After, idle, again_idle, has_found, any_of, is_mine, family_of, found_changed, permit_on, bind_on}
 
 same_cond : (b : Bool) → b ≡ cond b true false
@@ -52,9 +52,9 @@ end_refreshed tuple user family number first granted h since calm some =
     cond-false (is_ended user number h.event) 0 (option_map_or (λ l. h.moment + seconds l) (refreshed_to tuple user family h) (end_of tuple user family number first since)) calm
     ∙ ap (λ (o : Option ℕ). option_map_or (λ l. h.moment + seconds l) o (end_of tuple user family number first since)) some
 
-refresh_on : (tuple : FiveTuple) (user number first : ℕ) (dest : Endpoint) (n : ℕ) (h : Happening) (since : List Happening) (owner granted : ℕ) (wanted lifetime : Option ℕ) (state : State) → h.moment ≡ state.clock → h.event ≡ asks tuple owner (refresh wanted lifetime)
-    → has_of_another tuple owner state ≡ false → OuterStep tuple user number first dest n since state → After tuple user number first dest n h since (refreshes tuple owner wanted granted state)
-refresh_on tuple user number first dest n h since owner granted wanted lifetime state moment asked none held =
+refresh_on : (setup : Setup) (tuple : FiveTuple) (user number first : ℕ) (dest : Endpoint) (n : ℕ) (h : Happening) (since : List Happening) (owner granted : ℕ) (wanted lifetime : Option ℕ) (state : State) → h.moment ≡ state.clock → h.event ≡ asks tuple owner (refresh wanted lifetime)
+    → has_of_another tuple owner state ≡ false → OuterStep setup tuple user number first dest n since state → After setup tuple user number first dest n h since (refreshes tuple owner wanted granted state)
+refresh_on setup tuple user number first dest n h since owner granted wanted lifetime state moment asked none held =
     let family = dest.ip.family in
     let a = held.a in
     let his = is_mine tuple owner family state a held.found none in
@@ -72,18 +72,19 @@ refresh_on tuple user number first dest n h since owner granted wanted lifetime 
     let told_refreshed : h.output ≡ answers tuple (refreshed granted) → is_wanted wanted a ≡ true → refreshed_to tuple user family h ≡ Some granted = λ reply of.
     cond-true (is_refresh tuple user family h.event) (refreshed_in h.output) None (same_test ∙ of) ∙ ap refreshed_in reply in
     let never : h.output ≡ answers tuple (refreshed granted) → Permits tuple user dest.ip n h → ⊥ = λ reply p. let e = sym reply ∙ p.succeeded in absurd cc in
-    let never_bound : h.output ≡ answers tuple (refreshed granted) → (channel : ℕ) → Binds tuple user channel dest n h → ⊥ = λ reply channel p. let e = sym reply ∙ p.succeeded in absurd cc in
-    cond_both (granted == 0) (closing test (answers tuple (refreshed granted)) state) (keeping after (answers tuple (refreshed granted))) (After tuple user number first dest n h since)
-    (λ nought reply kept. cond_both (is_wanted wanted a) true false (λ (b : Bool). is_wanted wanted a ≡ b → OuterStep tuple user number first dest n (h ∷ since) (without test state))
+    let never_bound : h.output ≡ answers tuple (refreshed granted) → BindsTo tuple user dest.ip n h → ⊥ = λ reply p. let e = sym reply ∙ p.binds.succeeded in absurd cc in
+    let never_one : h.output ≡ answers tuple (refreshed granted) → (channel : ℕ) → Binds tuple user channel dest n h → ⊥ = λ reply channel p. let e = sym reply ∙ p.succeeded in absurd cc in
+    cond_both (granted == 0) (closing test (answers tuple (refreshed granted)) state) (keeping after (answers tuple (refreshed granted))) (After setup tuple user number first dest n h since)
+    (λ nought reply kept. cond_both (is_wanted wanted a) true false (λ (b : Bool). is_wanted wanted a ≡ b → OuterStep setup tuple user number first dest n (h ∷ since) (without test state))
     (λ _ of.
     let end = end_refreshed tuple user family number first granted h since calm (told_refreshed reply of) in
     let zero_is = eqb-true granted 0 nought in
     absurd (omega (arith, kept, end, zero_is, moment)))
-    (λ _ off. held_on tuple user number first dest n h since state (without test state)
+    (λ _ off. held_on setup tuple user number first dest n h since state (without test state)
     (record { calm = calm; lifetime = not_refresh tuple user family h (same_test ∙ off); permits = never reply; binds = never_bound reply }) (omega arith)
     (find_kept (is_for tuple family) (λ b. not (test b)) state.relays a held.found (ap not (right_false (is_owned tuple owner a) (is_wanted wanted a) off)) ∙ sym held.found) held)
     (same_cond (is_wanted wanted a)))
-    (λ some reply kept. cond_both (is_wanted wanted a) later_one a (λ (b : Relay). relay_of tuple family after ≡ Some b → OuterStep tuple user number first dest n (h ∷ since) after)
+    (λ some reply kept. cond_both (is_wanted wanted a) later_one a (λ (b : Relay). relay_of tuple family after ≡ Some b → OuterStep setup tuple user number first dest n (h ∷ since) after)
     (λ of is. record {
       a = later_one;
       found = is;
@@ -92,37 +93,39 @@ refresh_on tuple user number first dest n h since owner granted wanted lifetime 
       ends = le_of_eq (end_refreshed tuple user family number first granted h since calm (told_refreshed reply of) ∙ ap (λ (m : ℕ). m + seconds granted) moment);
       permits = λ some. held.permits (only_older (Permits tuple user dest.ip n) h since (never reply) some);
       soon = λ some. held.soon (only_older (Permits tuple user dest.ip n) h since (never reply) some);
-      bound = λ channel some. held.bound channel (only_older (Binds tuple user channel dest n) h since (never_bound reply channel) some);
-      bound_soon = λ channel some. held.bound_soon channel (only_older (Binds tuple user channel dest n) h since (never_bound reply channel) some);
+      permits_long = λ on some. held.permits_long on (only_longer tuple user dest.ip n h since (never_bound reply) some);
+      long_soon = λ some. held.long_soon (only_longer tuple user dest.ip n h since (never_bound reply) some);
+      bound = λ channel some. held.bound channel (only_older (Binds tuple user channel dest n) h since (never_one reply channel) some);
+      bound_soon = λ channel some. held.bound_soon channel (only_older (Binds tuple user channel dest n) h since (never_one reply channel) some);
     })
-    (λ off is. held_on tuple user number first dest n h since state after (record { calm = calm; lifetime = not_refresh tuple user family h (same_test ∙ off); permits = never reply; binds = never_bound reply }) (omega arith) (is ∙ sym held.found) held)
+    (λ off is. held_on setup tuple user number first dest n h since state after (record { calm = calm; lifetime = not_refresh tuple user family h (same_test ∙ off); permits = never reply; binds = never_bound reply }) (omega arith) (is ∙ sym held.found) held)
     (found_changed tuple owner family (lasting wanted (state.clock + seconds granted)) state a (lasting_same (λ b. b.tuple) wanted (state.clock + seconds granted) (λ _. refl)) (lasting_same (λ b. b.family) wanted (state.clock + seconds granted) (λ _. refl)) his held.found))
 
 -- ---- All own requests
 
 fulfil_on : (setup : Setup) (rules : Rules) (tuple : FiveTuple) (user number first : ℕ) (dest : Endpoint) (n : ℕ) (h : Happening) (since : List Happening) (owner : ℕ) (request : Request) (state : State) → state.clock ≤ n → h.moment ≡ state.clock → h.event ≡ asks tuple owner request
-    → fault setup rules state tuple owner request ≡ None → OuterStep tuple user number first dest n since state → After tuple user number first dest n h since (fulfils setup tuple owner request state)
+    → fault setup rules state tuple owner request ≡ None → OuterStep setup tuple user number first dest n since state → After setup tuple user number first dest n h since (fulfils setup tuple owner request state)
 fulfil_on setup rules tuple user number first dest n h since owner (allocate id lifetime wants) state le moment asked fit held reply kept =
     let used = (row_none (has_any tuple state) 437 _ fit).0 in
     absurd (false≢true (sym used ∙ any_of tuple dest.ip.family state.relays held.a held.found))
 fulfil_on setup rules tuple user number first dest n h since owner (unfit_allocate code) state le moment asked fit held reply kept = let e = (row_none (has_any tuple state) 437 (Some code) fit).1 in absurd cc
 fulfil_on setup rules tuple user number first dest n h since owner (refresh wanted lifetime) state le moment asked fit held reply kept =
-    refresh_on tuple user number first dest n h since owner (refreshed_for lifetime setup.greatest_lifetime) wanted lifetime state moment asked (own_none tuple owner state (row (not (has_wanted tuple wanted state)) 443 None) fit).his held reply kept
+    refresh_on setup tuple user number first dest n h since owner (refreshed_for lifetime setup.greatest_lifetime) wanted lifetime state moment asked (own_none tuple owner state (row (not (has_wanted tuple wanted state)) 443 None) fit).his held reply kept
 fulfil_on setup rules tuple user number first dest n h since owner (permit peers) state le moment asked fit held reply kept =
-    permit_on tuple user number first dest n h since owner peers state le moment asked reply (permit_none setup rules tuple owner peers state fit).his held
+    permit_on setup tuple user number first dest n h since owner peers state le moment asked reply (permit_none setup rules tuple owner peers state fit).his held
 fulfil_on setup rules tuple user number first dest n h since owner (bind channel peer) state le moment asked fit held reply kept =
     let fits = bind_none setup rules tuple owner channel peer state fit in
-    bind_on tuple user number first dest n h since owner channel peer state le moment asked reply fits.his fits.free held
+    bind_on setup tuple user number first dest n h since owner channel peer state le moment asked reply fits.his fits.free held
 fulfil_on setup rules tuple user number first dest n h since owner (unfit code) state le moment asked fit held reply kept = let e = (own_none tuple owner state (Some code) fit).rest in absurd cc
 
 own_on : (setup : Setup) (rules : Rules) (tuple : FiveTuple) (user number first : ℕ) (dest : Endpoint) (n : ℕ) (h : Happening) (since : List Happening) (owner : ℕ) (request : Request) (state : State) → state.clock ≤ n → h.moment ≡ state.clock → h.event ≡ asks tuple owner request
-    → OuterStep tuple user number first dest n since state → After tuple user number first dest n h since (serves setup rules tuple owner request state)
+    → OuterStep setup tuple user number first dest n since state → After setup tuple user number first dest n h since (serves setup rules tuple owner request state)
 own_on setup rules tuple user number first dest n h since owner request state le moment asked held =
-    serve_cases setup rules tuple owner request state (After tuple user number first dest n h since)
-    (λ code _ _ reply _. held_on tuple user number first dest n h since state state (idle tuple tuple user number owner dest n h request (answers tuple (refused code)) asked reply refl (λ e. absurd cc)) (omega arith) refl held)
+    serve_cases setup rules tuple owner request state (After setup tuple user number first dest n h since)
+    (λ code _ _ reply _. held_on setup tuple user number first dest n h since state state (idle tuple tuple user number owner dest n h request (answers tuple (refused code)) asked reply refl (λ e. absurd cc)) (omega arith) refl held)
     (λ again reply _.
     let i = again_idle setup tuple tuple owner request state again in
-    held_on tuple user number first dest n h since state state (idle tuple tuple user number owner dest n h request (answers_again setup tuple request state) asked reply i.0 i.1) (omega arith) refl held)
+    held_on setup tuple user number first dest n h since state state (idle tuple tuple user number owner dest n h request (answers_again setup tuple request state) asked reply i.0 i.1) (omega arith) refl held)
     (λ _ fit. fulfil_on setup rules tuple user number first dest n h since owner request state le moment asked fit held)
 
 -- ---- Requests of others
@@ -152,7 +155,7 @@ others_fulfilled setup tuple other family user (refresh wanted lifetime) state a
     (λ _. others_stay other user change state (lasting_same (λ b. b.tuple) wanted (state.clock + seconds granted) (λ _. refl)) (lasting_same (λ b. b.family) wanted (state.clock + seconds granted) (λ _. refl)) tuple family (differs tuple other apart))
 others_fulfilled setup tuple other family user (permit peers) state apart = others_stay other user (permitting state.clock peers) state (λ _. refl) (λ _. refl) tuple family (differs tuple other apart)
 others_fulfilled setup tuple other family user (bind number peer) state apart =
-    others_stay other user (binding state.clock number peer) state (binding_same (λ b. b.tuple) state.clock number peer (λ _. refl)) (binding_same (λ b. b.family) state.clock number peer (λ _. refl)) tuple family (differs tuple other apart)
+    others_stay other user (binding (bound_for setup) state.clock number peer) state (binding_same (λ b. b.tuple) (bound_for setup) state.clock number peer (λ _. refl)) (binding_same (λ b. b.family) (bound_for setup) state.clock number peer (λ _. refl)) tuple family (differs tuple other apart)
 others_fulfilled setup tuple other family user (unfit code) state apart = refl
 
 pub others_kept : (setup : Setup) (rules : Rules) (tuple other : FiveTuple) (family user : ℕ) (request : Request) (state : State) → is_tuple tuple other ≡ false → relay_of tuple family (serves setup rules other user request state).state ≡ relay_of tuple family state
@@ -161,33 +164,33 @@ others_kept setup rules tuple other family user request state apart =
 
 -- a request of another client
 other_on : (setup : Setup) (rules : Rules) (tuple other : FiveTuple) (user number first : ℕ) (dest : Endpoint) (n : ℕ) (h : Happening) (since : List Happening) (owner : ℕ) (request : Request) (state after : State) → h.event ≡ asks other owner request → is_tuple tuple other ≡ false
-    → state.clock ≤ after.clock → relay_of tuple dest.ip.family after ≡ relay_of tuple dest.ip.family state → OuterStep tuple user number first dest n since state → OuterStep tuple user number first dest n (h ∷ since) after
+    → state.clock ≤ after.clock → relay_of tuple dest.ip.family after ≡ relay_of tuple dest.ip.family state → OuterStep setup tuple user number first dest n since state → OuterStep setup tuple user number first dest n (h ∷ since) after
 other_on setup rules tuple other user number first dest n h since owner request state after asked apart le same held =
     let back : is_tuple other tuple ≡ false = not_true (is_tuple other tuple) (λ e. differs tuple other apart (sym (tuple_same other tuple e))) in
-    held_on tuple user number first dest n h since state after
+    held_on setup tuple user number first dest n h since state after
     (record {
       calm = ap (is_ended user number) asked;
       lifetime = not_refresh tuple user dest.ip.family h (ap (is_refresh tuple user dest.ip.family) asked ∙ left_false (is_tuple other tuple && (user == owner)) (refreshes_of dest.ip.family request) (left_false (is_tuple other tuple) (user == owner) back));
       permits = λ p. let e : asks other owner request ≡ asks tuple user p.request = sym asked ∙ p.asked in let t : tuple ≡ other = cc in differs tuple other apart t;
-      binds = λ channel p. let e : asks other owner request ≡ asks tuple user (bind channel dest) = sym asked ∙ p.asked in let t : tuple ≡ other = cc in differs tuple other apart t;
+      binds = λ p. let e : asks other owner request ≡ asks tuple user (bind p.channel p.peer) = sym asked ∙ p.binds.asked in let t : tuple ≡ other = cc in differs tuple other apart t;
     }) le same held
 
 -- what is no request
-data_on : (tuple : FiveTuple) (user number first : ℕ) (dest : Endpoint) (n : ℕ) (h : Happening) (since : List Happening) (state : State) → is_ended user number h.event ≡ false → is_refresh tuple user dest.ip.family h.event ≡ false
-    → ((owner : ℕ) (request : Request) → h.event ≡ asks tuple owner request → ⊥) → OuterStep tuple user number first dest n since state → OuterStep tuple user number first dest n (h ∷ since) state
-data_on tuple user number first dest n h since state calm quiet never held =
-    held_on tuple user number first dest n h since state state (record { calm = calm; lifetime = not_refresh tuple user dest.ip.family h quiet; permits = λ p. never user p.request p.asked; binds = λ channel p. never user (bind channel dest) p.asked }) (omega arith) refl held
+data_on : (setup : Setup) (tuple : FiveTuple) (user number first : ℕ) (dest : Endpoint) (n : ℕ) (h : Happening) (since : List Happening) (state : State) → is_ended user number h.event ≡ false → is_refresh tuple user dest.ip.family h.event ≡ false
+    → ((owner : ℕ) (request : Request) → h.event ≡ asks tuple owner request → ⊥) → OuterStep setup tuple user number first dest n since state → OuterStep setup tuple user number first dest n (h ∷ since) state
+data_on setup tuple user number first dest n h since state calm quiet never held =
+    held_on setup tuple user number first dest n h since state state (record { calm = calm; lifetime = not_refresh tuple user dest.ip.family h quiet; permits = λ p. never user p.request p.asked; binds = λ p. never user (bind p.channel p.peer) p.binds.asked }) (omega arith) refl held
 
 -- the caller ends something: this, or it stays
-ended_on : (tuple : FiveTuple) (user number first : ℕ) (dest : Endpoint) (n : ℕ) (h : Happening) (since : List Happening) (test : Relay → Bool) (state : State) → ((a : Relay) → a.user ≡ user → a.number ≡ number → is_ended user number h.event ≡ test a) → is_refresh tuple user dest.ip.family h.event ≡ false
-    → ((owner : ℕ) (request : Request) → h.event ≡ asks tuple owner request → ⊥) → state.clock < EndAfter tuple user number first dest h since → OuterStep tuple user number first dest n since state → OuterStep tuple user number first dest n (h ∷ since) (without test state)
-ended_on tuple user number first dest n h since test state same_end quiet never kept held =
+ended_on : (setup : Setup) (tuple : FiveTuple) (user number first : ℕ) (dest : Endpoint) (n : ℕ) (h : Happening) (since : List Happening) (test : Relay → Bool) (state : State) → ((a : Relay) → a.user ≡ user → a.number ≡ number → is_ended user number h.event ≡ test a) → is_refresh tuple user dest.ip.family h.event ≡ false
+    → ((owner : ℕ) (request : Request) → h.event ≡ asks tuple owner request → ⊥) → state.clock < EndAfter tuple user number first dest h since → OuterStep setup tuple user number first dest n since state → OuterStep setup tuple user number first dest n (h ∷ since) (without test state)
+ended_on setup tuple user number first dest n h since test state same_end quiet never kept held =
     let rest = option_map_or (λ l. h.moment + seconds l) (refreshed_to tuple user dest.ip.family h) (end_of tuple user dest.ip.family number first since) in
     let calm : is_ended user number h.event ≡ false = not_true (is_ended user number h.event) (λ over.
     let none : EndAfter tuple user number first dest h since ≡ 0 = cond-true (is_ended user number h.event) 0 rest over in
     omega (arith, kept, none)) in
-    held_on tuple user number first dest n h since state (without test state)
-    (record { calm = calm; lifetime = not_refresh tuple user dest.ip.family h quiet; permits = λ p. never user p.request p.asked; binds = λ channel p. never user (bind channel dest) p.asked }) (omega arith)
+    held_on setup tuple user number first dest n h since state (without test state)
+    (record { calm = calm; lifetime = not_refresh tuple user dest.ip.family h quiet; permits = λ p. never user p.request p.asked; binds = λ p. never user (bind p.channel p.peer) p.binds.asked }) (omega arith)
     (find_kept (is_for tuple dest.ip.family) (λ a. not (test a)) state.relays held.a held.found (ap not (sym (same_end held.a held.user_is held.number_is) ∙ calm)) ∙ sym held.found) held
 
 -- ---- The step
@@ -196,33 +199,33 @@ pub clock_kept : (setup : Setup) (rules : Rules) (state : State) (event : Event)
 clock_kept setup rules state event = happens_keeps setup Anyone (λ s. state.clock ≤ s.clock) (later_kept setup state.clock) rules state event (by_anyone event) (omega arith)
 
 asks_on : (setup : Setup) (rules : Rules) (tuple other : FiveTuple) (user number first : ℕ) (dest : Endpoint) (n : ℕ) (h : Happening) (since : List Happening) (owner : ℕ) (request : Request) (state : State) → state.clock ≤ n → h.moment ≡ state.clock → h.event ≡ asks other owner request
-    → (own : Bool) → is_tuple tuple other ≡ own → OuterStep tuple user number first dest n since state → After tuple user number first dest n h since (serves setup rules other owner request state)
+    → (own : Bool) → is_tuple tuple other ≡ own → OuterStep setup tuple user number first dest n since state → After setup tuple user number first dest n h since (serves setup rules other owner request state)
 asks_on setup rules tuple other user number first dest n h since owner request state le moment asked true own held reply kept =
     let same = tuple_same tuple other own in
-    subst (λ (t : FiveTuple). After tuple user number first dest n h since (serves setup rules t owner request state)) same
+    subst (λ (t : FiveTuple). After setup tuple user number first dest n h since (serves setup rules t owner request state)) same
     (own_on setup rules tuple user number first dest n h since owner request state le moment (asked ∙ ap (λ (t : FiveTuple). asks t owner request) (sym same)) held) reply kept
 asks_on setup rules tuple other user number first dest n h since owner request state le moment asked false own held reply kept =
     other_on setup rules tuple other user number first dest n h since owner request state (serves setup rules other owner request state).state asked own (clock_kept setup rules state (asks other owner request)) (others_kept setup rules tuple other dest.ip.family owner request state own) held
 
-step_on : (setup : Setup) (tuple : FiveTuple) (user number first : ℕ) (dest : Endpoint) (n : ℕ) (since : List Happening) (now : ℕ) (rules : Rules) (event : Event) (state : State) → (at now state).clock ≤ n → OuterStep tuple user number first dest n since (at now state)
+step_on : (setup : Setup) (tuple : FiveTuple) (user number first : ℕ) (dest : Endpoint) (n : ℕ) (since : List Happening) (now : ℕ) (rules : Rules) (event : Event) (state : State) → (at now state).clock ≤ n → OuterStep setup tuple user number first dest n since (at now state)
     → let h = happening setup state (record { now = now; rules = rules; event = event }) in
-    (step setup rules state now event).state.clock < EndAfter tuple user number first dest h since → OuterStep tuple user number first dest n (h ∷ since) (step setup rules state now event).state
+    (step setup rules state now event).state.clock < EndAfter tuple user number first dest h since → OuterStep setup tuple user number first dest n (h ∷ since) (step setup rules state now event).state
 step_on setup tuple user number first dest n since now rules (asks other owner request) state le held kept =
     asks_on setup rules tuple other user number first dest n (happening setup state (record { now = now; rules = rules; event = asks other owner request })) since owner request (at now state) le refl refl (is_tuple tuple other) refl held refl kept
 step_on setup tuple user number first dest n since now rules (sends other peer dont_fragment bytes) state le held kept =
-    data_on tuple user number first dest n (happening setup state (record { now = now; rules = rules; event = sends other peer dont_fragment bytes })) since (at now state) refl refl (λ _ _ e. absurd cc) held
+    data_on setup tuple user number first dest n (happening setup state (record { now = now; rules = rules; event = sends other peer dont_fragment bytes })) since (at now state) refl refl (λ _ _ e. absurd cc) held
 step_on setup tuple user number first dest n since now rules (sends_on other channel bytes) state le held kept =
-    data_on tuple user number first dest n (happening setup state (record { now = now; rules = rules; event = sends_on other channel bytes })) since (at now state) refl refl (λ _ _ e. absurd cc) held
+    data_on setup tuple user number first dest n (happening setup state (record { now = now; rules = rules; event = sends_on other channel bytes })) since (at now state) refl refl (λ _ _ e. absurd cc) held
 step_on setup tuple user number first dest n since now rules (arrives socket peer bytes) state le held kept =
-    data_on tuple user number first dest n (happening setup state (record { now = now; rules = rules; event = arrives socket peer bytes })) since (at now state) refl refl (λ _ _ e. absurd cc) held
+    data_on setup tuple user number first dest n (happening setup state (record { now = now; rules = rules; event = arrives socket peer bytes })) since (at now state) refl refl (λ _ _ e. absurd cc) held
 step_on setup tuple user number first dest n since now rules (bounces socket peer icmp) state le held kept =
-    data_on tuple user number first dest n (happening setup state (record { now = now; rules = rules; event = bounces socket peer icmp })) since (at now state) refl refl (λ _ _ e. absurd cc) held
+    data_on setup tuple user number first dest n (happening setup state (record { now = now; rules = rules; event = bounces socket peer icmp })) since (at now state) refl refl (λ _ _ e. absurd cc) held
 step_on setup tuple user number first dest n since now rules (ends socket) state le held kept =
-    ended_on tuple user number first dest n (happening setup state (record { now = now; rules = rules; event = ends socket })) since (is_at socket) (at now state) (λ a u m. ap (λ (k : ℕ). k == socket) (sym m)) refl (λ _ _ e. absurd cc) kept held
+    ended_on setup tuple user number first dest n (happening setup state (record { now = now; rules = rules; event = ends socket })) since (is_at socket) (at now state) (λ a u m. ap (λ (k : ℕ). k == socket) (sym m)) refl (λ _ _ e. absurd cc) kept held
 step_on setup tuple user number first dest n since now rules (ends_user owner) state le held kept =
-    ended_on tuple user number first dest n (happening setup state (record { now = now; rules = rules; event = ends_user owner })) since (is_users owner) (at now state) (λ a u m. ap (λ (k : ℕ). k == owner) (sym u)) refl (λ _ _ e. absurd cc) kept held
+    ended_on setup tuple user number first dest n (happening setup state (record { now = now; rules = rules; event = ends_user owner })) since (is_users owner) (at now state) (λ a u m. ap (λ (k : ℕ). k == owner) (sym u)) refl (λ _ _ e. absurd cc) kept held
 step_on setup tuple user number first dest n since now rules ticks state le held kept =
-    data_on tuple user number first dest n (happening setup state (record { now = now; rules = rules; event = ticks })) since (at now state) refl refl (λ _ _ e. absurd cc) held
+    data_on setup tuple user number first dest n (happening setup state (record { now = now; rules = rules; event = ticks })) since (at now state) refl refl (λ _ _ e. absurd cc) held
 
 -- ---- The first state
 
@@ -265,12 +268,12 @@ opened_all setup tuple user id until wants state soon free =
     (λ want offer s _ _ _ each. (λ _. record { user_is = refl; until_is = refl }, each)) wants state soon
     (each_map (λ a. is_of tuple a ≡ false) (λ a. is_of tuple a ≡ true → IsOpened tuple user until a) (λ a isnt is. absurd (false≢true (sym isnt ∙ is))) state.relays (any_none (is_of tuple) state.relays free))
 
-abbrev Begins : FiveTuple → (user number clock granted : ℕ) → Endpoint → (n : ℕ) → List Given → List Missing → Step → Type 0
-Begins tuple user number clock granted dest n given missing s = s.output ≡ answers tuple (allocated given granted missing) → SomeOf (λ g. (g.family ≡ dest.ip.family) × (g.number ≡ number)) given → IsSingle s.state
-    → OuterStep tuple user number (clock + seconds granted) dest n [] s.state
+abbrev Begins : Setup → FiveTuple → (user number clock granted : ℕ) → Endpoint → (n : ℕ) → List Given → List Missing → Step → Type 0
+Begins setup tuple user number clock granted dest n given missing s = s.output ≡ answers tuple (allocated given granted missing) → SomeOf (λ g. (g.family ≡ dest.ip.family) × (g.number ≡ number)) given → IsSingle s.state
+    → OuterStep setup tuple user number (clock + seconds granted) dest n [] s.state
 
 fulfil_begins : (setup : Setup) (rules : Rules) (tuple : FiveTuple) (user id number granted : ℕ) (dest : Endpoint) (n : ℕ) (lifetime : Option ℕ) (wants : List Want) (given : List Given) (missing : List Missing) (state : State) → list_any (is_of tuple) state.relays ≡ false
-    → Begins tuple user number state.clock granted dest n given missing (fulfils setup tuple user (allocate id lifetime wants) state)
+    → Begins setup tuple user number state.clock granted dest n given missing (fulfils setup tuple user (allocate id lifetime wants) state)
 fulfil_begins setup rules tuple user id number granted dest n lifetime wants given missing state free reply has single =
     let g = granted_for lifetime setup.greatest_lifetime in
     let until = state.clock + seconds g in
@@ -291,6 +294,8 @@ fulfil_begins setup rules tuple user id number granted dest n lifetime wants giv
       ends = le_of_eq (ap (λ (k : ℕ). state.clock + seconds k) (sym granted_is) ∙ sym opened_is.until_is);
       permits = λ some_permits. absurd some_permits;
       soon = λ some_permits. absurd some_permits;
+      permits_long = λ _ some_binds. absurd some_binds;
+      long_soon = λ some_binds. absurd some_binds;
       bound = λ channel some_binds. absurd some_binds;
       bound_soon = λ channel some_binds. absurd some_binds;
     }
@@ -300,49 +305,49 @@ some_within P [] h before is = inl is
 some_within P (g ∷ since) h before is = inr (some_within P since h before is)
 
 -- what is kept was given
-kept_given : (hs : List Happening) (a : Relay) → IsBacked hs a → IsGiven a.number hs
-kept_given hs a b =
+kept_given : (setup : Setup) (hs : List Happening) (a : Relay) → IsBacked setup hs a → IsGiven a.number hs
+kept_given setup hs a b =
     subst (IsGiven a.number) (sym b.split)
     (some_within (λ h. Gives a.number h.output) b.since b.opening b.before
     (record { tuple = a.tuple; given = b.opens.given; lifetime = b.opens.granted; missing = b.opens.missing; answered = b.opens.answered; has = some_map (λ g. (g.family ≡ a.family) × (g.number ≡ a.number)) (λ g. g.number ≡ a.number) (λ g both. both.1) b.opens.given b.opens.has }))
 
 -- so a number that is first given now isn't kept
-not_again : (tuple : FiveTuple) (family number : ℕ) (hs : List Happening) (all : List Relay) → AllByRecursion (IsBacked hs) all → (IsGiven number hs → ⊥) → SomeOf (λ a. (is_for tuple family a ≡ true) × (a.number ≡ number)) all → ⊥
-not_again tuple family number hs [] each never some = some
-not_again tuple family number hs (a ∷ all) each never (inl here) = never (subst (λ (k : ℕ). IsGiven k hs) here.1 (kept_given hs a each.0))
-not_again tuple family number hs (a ∷ all) each never (inr more) = not_again tuple family number hs all each.1 never more
+not_again : (setup : Setup) (tuple : FiveTuple) (family number : ℕ) (hs : List Happening) (all : List Relay) → AllByRecursion (IsBacked setup hs) all → (IsGiven number hs → ⊥) → SomeOf (λ a. (is_for tuple family a ≡ true) × (a.number ≡ number)) all → ⊥
+not_again setup tuple family number hs [] each never some = some
+not_again setup tuple family number hs (a ∷ all) each never (inl here) = never (subst (λ (k : ℕ). IsGiven k hs) here.1 (kept_given setup hs a each.0))
+not_again setup tuple family number hs (a ∷ all) each never (inr more) = not_again setup tuple family number hs all each.1 never more
 
 opens_held : (setup : Setup) (rules : Rules) (hs : List Happening) (tuple : FiveTuple) (user id number granted : ℕ) (dest : Endpoint) (n : ℕ) (lifetime : Option ℕ) (wants : List Want) (given : List Given) (missing : List Missing) (state : State)
-    → AllByRecursion (IsBacked hs) state.relays → (IsGiven number hs → ⊥) → Begins tuple user number state.clock granted dest n given missing (serves setup rules tuple user (allocate id lifetime wants) state)
+    → AllByRecursion (IsBacked setup hs) state.relays → (IsGiven number hs → ⊥) → Begins setup tuple user number state.clock granted dest n given missing (serves setup rules tuple user (allocate id lifetime wants) state)
 opens_held setup rules hs tuple user id number granted dest n lifetime wants given missing state each never =
-    serve_cases setup rules tuple user (allocate id lifetime wants) state (Begins tuple user number state.clock granted dest n given missing)
+    serve_cases setup rules tuple user (allocate id lifetime wants) state (Begins setup tuple user number state.clock granted dest n given missing)
     (λ code _ _ reply. absurd cc)
     (λ again reply has _.
     let e : answers tuple (allocated (given_to tuple state) (left_of tuple state) (missing_to setup tuple wants state)) ≡ answers tuple (allocated given granted missing) = reply in
     let given_is : given_to tuple state ≡ given = cc in
-    absurd (not_again tuple dest.ip.family number hs state.relays each never (given_some tuple dest.ip.family number state.relays (subst (λ (l : List Given). SomeOf (λ x. (x.family ≡ dest.ip.family) × (x.number ≡ number)) l) (sym given_is) has))))
+    absurd (not_again setup tuple dest.ip.family number hs state.relays each never (given_some tuple dest.ip.family number state.relays (subst (λ (l : List Given). SomeOf (λ x. (x.family ≡ dest.ip.family) × (x.number ≡ number)) l) (sym given_is) has))))
     (λ _ fit. fulfil_begins setup rules tuple user id number granted dest n lifetime wants given missing state (row_none (has_any tuple state) 437 _ fit).0)
 
 begins : (setup : Setup) (events : List Timed) (tuple : FiveTuple) (user number : ℕ) (dest : Endpoint) (n now : ℕ) (rules : Rules) (event : Event) → (o : Opens tuple user dest.ip.family number (happening setup (run setup events) (record { now = now; rules = rules; event = event }))) → (IsGiven number (history setup events) → ⊥)
-    → OuterStep tuple user number ((at now (run setup events)).clock + seconds o.granted) dest n [] (step setup rules (run setup events) now event).state
+    → OuterStep setup tuple user number ((at now (run setup events)).clock + seconds o.granted) dest n [] (step setup rules (run setup events) now event).state
 begins setup events tuple user number dest n now rules event o never =
     let state = run setup events in
     let s = at now state in
-    subst (λ (e : Event). (happens setup rules s e).output ≡ answers tuple (allocated o.given o.granted o.missing) → IsSingle (happens setup rules s e).state → OuterStep tuple user number (s.clock + seconds o.granted) dest n [] (happens setup rules s e).state) (sym o.asked)
-    (λ reply single. opens_held setup rules (history setup events) tuple user o.id number o.granted dest n o.lifetime o.wants o.given o.missing s (each_filter (IsBacked (history setup events)) (is_live (max state.clock now)) state.relays (run_backed setup events)) never reply o.has single)
+    subst (λ (e : Event). (happens setup rules s e).output ≡ answers tuple (allocated o.given o.granted o.missing) → IsSingle (happens setup rules s e).state → OuterStep setup tuple user number (s.clock + seconds o.granted) dest n [] (happens setup rules s e).state) (sym o.asked)
+    (λ reply single. opens_held setup rules (history setup events) tuple user o.id number o.granted dest n o.lifetime o.wants o.given o.missing s (each_filter (IsBacked setup (history setup events)) (is_live (max state.clock now)) state.relays (run_backed setup events)) never reply o.has single)
     o.answered (run_single setup (record { now = now; rules = rules; event = event } ∷ events))
 
 -- ---- Runs
 
 pub run_held : (setup : Setup) (tuple : FiveTuple) (user number : ℕ) (dest : Endpoint) (n : ℕ) (events : List Timed) (since : List Happening) (opening : Happening) (before : List Happening)
     → history setup events ≡ since ++ opening ∷ before → (o : Opens tuple user dest.ip.family number opening) → (IsGiven number before → ⊥) → (run setup events).clock ≤ n → Lasted tuple user dest.ip.family number (opening.moment + seconds o.granted) since
-    → (run setup events).clock < end_of tuple user dest.ip.family number (opening.moment + seconds o.granted) since → OuterStep tuple user number (opening.moment + seconds o.granted) dest n since (run setup events)
+    → (run setup events).clock < end_of tuple user dest.ip.family number (opening.moment + seconds o.granted) since → OuterStep setup tuple user number (opening.moment + seconds o.granted) dest n since (run setup events)
 run_held setup tuple user number dest n [] [] opening before split o never le lasted kept = absurd cc
 run_held setup tuple user number dest n [] (h ∷ since) opening before split o never le lasted kept = absurd cc
 run_held setup tuple user number dest n (t ∷ events) [] opening before split o never le lasted kept =
     let same : happening setup (run setup events) t ≡ opening = cc in
     let rest : history setup events ≡ before = cc in
-    subst (λ (h : Happening). (p : Opens tuple user dest.ip.family number h) → OuterStep tuple user number (h.moment + seconds p.granted) dest n [] (run setup (t ∷ events))) same
+    subst (λ (h : Happening). (p : Opens tuple user dest.ip.family number h) → OuterStep setup tuple user number (h.moment + seconds p.granted) dest n [] (run setup (t ∷ events))) same
     (λ p. begins setup events tuple user number dest n t.now t.rules t.event p (subst (λ (l : List Happening). IsGiven number l → ⊥) (sym rest) never)) o
 run_held setup tuple user number dest n (t ∷ events) (h ∷ since) opening before split o never le lasted kept =
     let same : happening setup (run setup events) t ≡ h = cc in
@@ -352,6 +357,6 @@ run_held setup tuple user number dest n (t ∷ events) (h ∷ since) opening bef
     let soon : m < end_of tuple user dest.ip.family number first since = subst (λ (g : Happening). g.moment < end_of tuple user dest.ip.family number first since) (sym same) lasted.0 in
     let more = clock_kept setup t.rules (at t.now (run setup events)) t.event in
     let held = run_held setup tuple user number dest n events since opening before rest o never (omega (arith, more, le)) lasted.1 (omega (arith, soon)) in
-    subst (λ (g : Happening). OuterStep tuple user number first dest n (g ∷ since) (run setup (t ∷ events))) same
-    (step_on setup tuple user number first dest n since t.now t.rules t.event (run setup events) (omega (arith, more, le)) (held_at tuple user number first dest n since (run setup events) t.now soon held)
+    subst (λ (g : Happening). OuterStep setup tuple user number first dest n (g ∷ since) (run setup (t ∷ events))) same
+    (step_on setup tuple user number first dest n since t.now t.rules t.event (run setup events) (omega (arith, more, le)) (held_at setup tuple user number first dest n since (run setup events) t.now soon held)
     (subst (λ (g : Happening). (run setup (t ∷ events)).clock < end_of tuple user dest.ip.family number first (g ∷ since)) (sym same) kept))

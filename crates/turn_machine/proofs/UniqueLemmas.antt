@@ -7,8 +7,8 @@ use Rattle.stun_endpoints.specs.declared.endpoints.Ip.{Ip}
 use Rattle.stun_endpoints.specs.declared.endpoints.Endpoint.{Endpoint}
 use Rattle.stun_endpoints.specs.declared.endpoints.FiveTuple.{FiveTuple}
 use Rattle.stun_endpoints.specs.Endpoints.{is_ip, is_endpoint}
-use Rattle.turn_machine.specs.Relays.{seconds, Permission, Channel, Relay, Setup, State, is_live, is_of, is_users, is_owned, is_permission, is_channel, is_channel_of}
-use Rattle.turn_machine.specs.Rows.{clashes, is_bound_otherwise, is_other_channel, with_channel, is_other_permission, with_permission, with_permissions, peers_of}
+use Rattle.turn_machine.specs.Relays.{seconds, Permission, Channel, Relay, Setup, State, is_live, is_of, is_users, is_owned, is_permission, is_channel, is_channel_of, bound_for}
+use Rattle.turn_machine.specs.Rows.{clashes, is_bound_otherwise, is_other_channel, with_channel, is_other_permission, with_permission_for, with_permissions, peers_of}
 use Rattle.turn_machine.specs.Steps.{is_wanted, lasting, permitting, binding}
 use Rattle.turn_machine.specs.Runs.{Timed, run}
 use Rattle.turn_machine.proofs.AddressesLemmas.{ip_same, endpoint_same}
@@ -47,12 +47,12 @@ replaced_once test keep new xs once gone =
 abbrev PermittedOnce : List Permission → Type 0
 PermittedOnce ps = (m : ℕ) (ip : Ip) → count_by (is_permission m ip) ps ≤ 1
 
-one_permitted : (now : ℕ) (ip : Ip) (ps : List Permission) → PermittedOnce ps → PermittedOnce (with_permission now ip ps)
-one_permitted now ip ps once m j =
-    let new : Permission = record { ip = ip; until = now + seconds 300 } in
+one_permitted : (lifetime now : ℕ) (ip : Ip) (ps : List Permission) → PermittedOnce ps → PermittedOnce (with_permission_for lifetime now ip ps)
+one_permitted lifetime now ip ps once m j =
+    let new : Permission = record { ip = ip; until = now + seconds lifetime } in
     replaced_once (is_permission m j) (is_other_permission now ip) new ps (once m j)
     (λ is.
-    let same : j ≡ ip = ip_same j ip (and_parts (is_ip j ip) (nat_lt m (now + seconds 300)) is).0 in
+    let same : j ≡ ip = ip_same j ip (and_parts (is_ip j ip) (nat_lt m (now + seconds lifetime)) is).0 in
     each_always (λ p. is_other_permission now ip p ≡ true → is_permission m j p ≡ false)
     (λ p kept.
     let other : is_ip ip p.ip ≡ false = not_yes (is_ip ip p.ip) (and_parts (not (is_ip ip p.ip)) (nat_lt now p.until) kept).0 in
@@ -60,7 +60,7 @@ one_permitted now ip ps once m j =
 
 all_permitted : (now : ℕ) (peers : List Endpoint) (ps : List Permission) → PermittedOnce ps → PermittedOnce (with_permissions now peers ps)
 all_permitted now [] ps once = once
-all_permitted now (peer ∷ peers) ps once = one_permitted now peer.ip (with_permissions now peers ps) (all_permitted now peers ps once)
+all_permitted now (peer ∷ peers) ps once = one_permitted 300 now peer.ip (with_permissions now peers ps) (all_permitted now peers ps once)
 
 pub record IsUnique (a : Relay) : Type 0 where
   pub number : (m n : ℕ) → count_by (is_channel m n) a.channels ≤ 1
@@ -95,15 +95,15 @@ no_clash : (of any : Bool) → (of && any) ≡ false → of ≡ true → any ≡
 no_clash true any none is = none
 no_clash false any none is = absurd (false≢true is)
 
-bound_unique : (now number : ℕ) (peer : Endpoint) (tuple : FiveTuple) (user : ℕ) (a : Relay) → is_owned tuple user a ≡ true → is_bound_otherwise now tuple number peer a ≡ false → IsUnique a → IsUnique (binding now number peer a)
-bound_unique now number peer tuple user a his free unique =
+bound_unique : (lifetime now number : ℕ) (peer : Endpoint) (tuple : FiveTuple) (user : ℕ) (a : Relay) → is_owned tuple user a ≡ true → is_bound_otherwise now tuple number peer a ≡ false → IsUnique a → IsUnique (binding lifetime now number peer a)
+bound_unique lifetime now number peer tuple user a his free unique =
     let of = (and_parts (is_of tuple a) (is_users user a) his).0 in
     let clash = any_none (clashes now number peer) a.channels (no_clash (is_of tuple a) (list_any (clashes now number peer) a.channels) free of) in
-    cond_both (peer.ip.family == a.family) (bound_after now number peer a) a IsUnique
+    cond_both (peer.ip.family == a.family) (bound_after lifetime now number peer a) a IsUnique
     (λ _. record {
       number = λ m n. number_bound now number peer a.channels m n (unique.number m n);
       peer = λ m q. peer_bound now number peer a.channels m q clash (unique.peer m q);
-      permission = all_permitted now (peers_of a (peer ∷ [])) a.permissions unique.permission;
+      permission = one_permitted lifetime now peer.ip a.permissions unique.permission;
     }) (λ _. unique)
 
 abbrev AreUnique : State → Type 0
@@ -122,8 +122,8 @@ unique_kept setup = record {
       (λ a _ u. record { number = u.number; peer = u.peer; permission = all_permitted state.clock (peers_of a peers) a.permissions u.permission }) each;
   bound = λ rules tuple user number peer state fit each.
       let free = any_none (is_bound_otherwise state.clock tuple number peer) state.relays (bind_none setup rules tuple user number peer state fit).free in
-      each_changed (λ a. IsUnique a × (is_bound_otherwise state.clock tuple number peer a ≡ false)) IsUnique tuple user (binding state.clock number peer) state (λ a b. b.0)
-      (λ a his b. bound_unique state.clock number peer tuple user a his b.1 b.0)
+      each_changed (λ a. IsUnique a × (is_bound_otherwise state.clock tuple number peer a ≡ false)) IsUnique tuple user (binding (bound_for setup) state.clock number peer) state (λ a b. b.0)
+      (λ a his b. bound_unique (bound_for setup) state.clock number peer tuple user a his b.1 b.0)
       (each_both IsUnique (λ a. is_bound_otherwise state.clock tuple number peer a ≡ false) (λ a. IsUnique a × (is_bound_otherwise state.clock tuple number peer a ≡ false)) (λ a u f. (u, f)) state.relays each free);
 }
 

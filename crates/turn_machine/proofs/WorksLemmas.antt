@@ -8,24 +8,24 @@ use Rattle.stun_endpoints.specs.declared.endpoints.Endpoint.{Endpoint}
 use Rattle.stun_endpoints.specs.declared.endpoints.FiveTuple.{FiveTuple}
 use Rattle.stun_endpoints.specs.Endpoints.{is_ip, is_endpoint, is_tuple}
 use Rattle.turn_machine.specs.Lists.{SomeOf}
-use Rattle.turn_machine.specs.Relays.{seconds, Channel, Relay, Setup, State, is_of, is_for, is_users, is_owned, is_channel, is_channel_of}
+use Rattle.turn_machine.specs.Relays.{seconds, Channel, Relay, Setup, State, is_of, is_for, is_users, is_owned, is_channel, is_channel_of, bound_for}
 use Rattle.turn_machine.specs.Events.{Request, allocate, unfit_allocate, refresh, permit, bind, unfit, asks, done, Output, answers}
 use Rattle.turn_machine.specs.Rows.{is_of_another, has_of_another, peers_of, clashes, is_bound_otherwise, is_other_channel, with_channel}
 use Rattle.turn_machine.specs.Steps.{Step, changed, permitting, binding, is_again, answers_again}
 use Rattle.turn_machine.specs.Runs.{Happening}
 use Rattle.turn_machine.specs.Granting.{relay_of}
-use Rattle.turn_machine.specs.Warrants.{refreshed_in, is_ended, end_of, names, Permits, Binds}
-use Rattle.turn_machine.proofs.AddressesLemmas.{ip_same, endpoint_same, endpoint_is_itself}
-use Rattle.turn_machine.proofs.ListsLemmas.{each_map, each_filter, any_none, find_true, left_false}
+use Rattle.turn_machine.specs.Warrants.{refreshed_in, is_ended, end_of, names, Permits, Binds, BindsTo}
+use Rattle.turn_machine.proofs.AddressesLemmas.{ip_same, ip_is_itself, endpoint_same, endpoint_is_itself}
+use Rattle.turn_machine.proofs.ListsLemmas.{each_map, each_filter, any_none, find_true, left_false, any_filter}
 use Rattle.turn_machine.proofs.Backed.{not_refreshed}
 use Rattle.turn_machine.proofs.KeptLemmas.{his_same, binding_same, bound_after}
-use Rattle.turn_machine.proofs.GrantedLemmas.{find_mapped, found_is, not_true, exactly_300}
-use Rattle.turn_machine.proofs.HoldingLemmas.{HasChannel, OuterStep, Grants_nothing, end_same, only_older, find_kept, all_stay, among, same_number, same_peer}
+use Rattle.turn_machine.proofs.GrantedLemmas.{find_mapped, found_is, not_true, exactly_for, exactly_300}
+use Rattle.turn_machine.proofs.HoldingLemmas.{HasChannel, IsLong, OuterStep, Grants_nothing, end_same, only_older, only_longer, find_kept, one_stays, all_stay, all_left, among, same_number, same_peer}
 
 -- ---- A request of the client
 
-abbrev pub After : (tuple : FiveTuple) (user number first : ℕ) (dest : Endpoint) (n : ℕ) (h : Happening) (since : List Happening) → Step → Type 0
-After tuple user number first dest n h since s = h.output ≡ s.output → s.state.clock < end_of tuple user dest.ip.family number first (h ∷ since) → OuterStep tuple user number first dest n (h ∷ since) s.state
+abbrev pub After : (setup : Setup) (tuple : FiveTuple) (user number first : ℕ) (dest : Endpoint) (n : ℕ) (h : Happening) (since : List Happening) → Step → Type 0
+After setup tuple user number first dest n h since s = h.output ≡ s.output → s.state.clock < end_of tuple user dest.ip.family number first (h ∷ since) → OuterStep setup tuple user number first dest n (h ∷ since) s.state
 
 -- what is answered other than with `done`, and isn't refreshed, grants nothing
 pub idle : (tuple other : FiveTuple) (user number owner : ℕ) (dest : Endpoint) (n : ℕ) (h : Happening) (request : Request) (output : Output) → h.event ≡ asks other owner request → h.output ≡ output → refreshed_in output ≡ None → (output ≡ answers tuple done → ⊥) → Grants_nothing tuple user number dest n h
@@ -33,7 +33,7 @@ idle tuple other user number owner dest n h request output asked reply quiet nev
   calm = ap (is_ended user number) asked;
   lifetime = not_refreshed tuple user dest.ip.family h (ap refreshed_in reply ∙ quiet);
   permits = λ p. never (sym reply ∙ p.succeeded);
-  binds = λ channel p. never (sym reply ∙ p.succeeded);
+  binds = λ p. never (sym reply ∙ p.binds.succeeded);
 }
 
 pub again_idle : (setup : Setup) (tuple other : FiveTuple) (user : ℕ) (request : Request) (state : State) → is_again tuple user request state ≡ true → (refreshed_in (answers_again setup tuple request state) ≡ None) × (answers_again setup tuple request state ≡ answers other done → ⊥)
@@ -77,18 +77,22 @@ found_changed tuple owner family change state a tuples families his is =
     ∙ ap (λ (b : Relay). Some b) (cond-true (is_owned tuple owner a) (change a) a his)
 
 -- CreatePermission
-pub permit_on : (tuple : FiveTuple) (user number first : ℕ) (dest : Endpoint) (n : ℕ) (h : Happening) (since : List Happening) (owner : ℕ) (peers : List Endpoint) (state : State) → state.clock ≤ n → h.moment ≡ state.clock → h.event ≡ asks tuple owner (permit peers) → h.output ≡ answers tuple done
-    → has_of_another tuple owner state ≡ false → OuterStep tuple user number first dest n since state → OuterStep tuple user number first dest n (h ∷ since) (changed tuple owner (permitting state.clock peers) state)
-permit_on tuple user number first dest n h since owner peers state le moment asked reply none held =
+pub permit_on : (setup : Setup) (tuple : FiveTuple) (user number first : ℕ) (dest : Endpoint) (n : ℕ) (h : Happening) (since : List Happening) (owner : ℕ) (peers : List Endpoint) (state : State) → state.clock ≤ n → h.moment ≡ state.clock → h.event ≡ asks tuple owner (permit peers) → h.output ≡ answers tuple done
+    → has_of_another tuple owner state ≡ false → OuterStep setup tuple user number first dest n since state → OuterStep setup tuple user number first dest n (h ∷ since) (changed tuple owner (permitting state.clock peers) state)
+permit_on setup tuple user number first dest n h since owner peers state le moment asked reply none held =
     let c = state.clock in
     let family = dest.ip.family in
     let a = held.a in
     let same : dest.ip.family ≡ a.family = sym (family_of tuple family state a held.found) in
+    let his = is_mine tuple owner family state a held.found none in
+    let owner_is : owner ≡ user = sym (eqb-true a.user owner (and_parts (is_of tuple a) (is_users owner a) his).1) ∙ held.user_is in
+    let longer = λ (some : IsLong tuple user dest.ip n (h ∷ since)). only_longer tuple user dest.ip n h since
+    (λ b. let e : asks tuple owner (permit peers) ≡ asks tuple user (bind b.channel b.peer) = sym asked ∙ b.binds.asked in absurd cc) some in
     let older = λ (channel : ℕ) (some : SomeOf (Binds tuple user channel dest n) (h ∷ since)). only_older (Binds tuple user channel dest n) h since
     (λ p. let e : asks tuple owner (permit peers) ≡ asks tuple user (bind channel dest) = sym asked ∙ p.asked in absurd cc) some in
     record {
       a = permitting c peers a;
-      found = found_changed tuple owner family (permitting c peers) state a (λ _. refl) (λ _. refl) (is_mine tuple owner family state a held.found none) held.found;
+      found = found_changed tuple owner family (permitting c peers) state a (λ _. refl) (λ _. refl) his held.found;
       user_is = held.user_is;
       number_is = held.number_is;
       ends = subst (λ (m : ℕ). m ≤ a.until) (sym (end_same tuple user family number first h since (ap (is_ended user number) asked) (not_refreshed tuple user family h (ap refreshed_in reply)))) held.ends;
@@ -104,6 +108,19 @@ permit_on tuple user number first dest n h since owner peers state le moment ask
         | inl p ↦ subst (λ (m : ℕ). n < m + seconds 300) moment p.lasts
         | inr more ↦ held.soon more
       ];
+      permits_long = λ on some. elim some [
+        | inl b ↦ absurd (let e : asks tuple owner (permit peers) ≡ asks tuple user (bind b.channel b.peer) = sym asked ∙ b.binds.asked in cc)
+        | inr more ↦
+            let unnamed : list_any (λ (q : Endpoint). is_ip dest.ip q.ip) (peers_of a peers) ≡ false = not_true (list_any (λ (q : Endpoint). is_ip dest.ip q.ip) (peers_of a peers))
+            (λ named. more.0 (record {
+              peers = peers;
+              asked = asked ∙ ap (λ (u : ℕ). asks tuple u (permit peers)) owner_is;
+              named = any_filter (λ (q : Endpoint). is_ip dest.ip q.ip) (λ (q : Endpoint). q.ip.family == a.family) peers named;
+              succeeded = reply;
+            })) in
+            all_left c n dest.ip (peers_of a peers) a.permissions le unnamed ∙ held.permits_long on more.1
+      ];
+      long_soon = λ some. held.long_soon (longer some);
       bound = λ channel some. held.bound channel (older channel some);
       bound_soon = λ channel some. held.bound_soon channel (older channel some);
     }
@@ -164,9 +181,12 @@ no_clash : (of any : Bool) → (of && any) ≡ false → of ≡ true → any ≡
 no_clash true any none is = none
 no_clash false any none is = absurd (false≢true is)
 
-pub bind_on : (tuple : FiveTuple) (user number first : ℕ) (dest : Endpoint) (n : ℕ) (h : Happening) (since : List Happening) (owner channel : ℕ) (peer : Endpoint) (state : State) → state.clock ≤ n → h.moment ≡ state.clock → h.event ≡ asks tuple owner (bind channel peer) → h.output ≡ answers tuple done
-    → has_of_another tuple owner state ≡ false → list_any (is_bound_otherwise state.clock tuple channel peer) state.relays ≡ false → OuterStep tuple user number first dest n since state → OuterStep tuple user number first dest n (h ∷ since) (changed tuple owner (binding state.clock channel peer) state)
-bind_on tuple user number first dest n h since owner channel peer state le moment asked reply none free held =
+least_300 : (setup : Setup) → 300 ≤ bound_for setup
+least_300 setup = cond_both setup.channel_permits 600 300 (λ (n : ℕ). 300 ≤ n) (λ _. omega arith) (λ _. omega arith)
+
+pub bind_on : (setup : Setup) (tuple : FiveTuple) (user number first : ℕ) (dest : Endpoint) (n : ℕ) (h : Happening) (since : List Happening) (owner channel : ℕ) (peer : Endpoint) (state : State) → state.clock ≤ n → h.moment ≡ state.clock → h.event ≡ asks tuple owner (bind channel peer) → h.output ≡ answers tuple done
+    → has_of_another tuple owner state ≡ false → list_any (is_bound_otherwise state.clock tuple channel peer) state.relays ≡ false → OuterStep setup tuple user number first dest n since state → OuterStep setup tuple user number first dest n (h ∷ since) (changed tuple owner (binding (bound_for setup) state.clock channel peer) state)
+bind_on setup tuple user number first dest n h since owner channel peer state le moment asked reply none free held =
     let c = state.clock in
     let family = dest.ip.family in
     let a = held.a in
@@ -175,12 +195,18 @@ bind_on tuple user number first dest n h since owner channel peer state le momen
     let same : dest.ip.family ≡ a.family = sym (family_of tuple family state a held.found) in
     let clash : AllByRecursion (λ d. clashes c channel peer d ≡ false) a.channels = any_none (clashes c channel peer) a.channels
     (no_clash (is_of tuple a) (list_any (clashes c channel peer) a.channels) (found_is (λ b. is_bound_otherwise c tuple channel peer b ≡ false) (is_for tuple family) state.relays a held.found (any_none (is_bound_otherwise c tuple channel peer) state.relays free)) of) in
-    let found = found_changed tuple owner family (binding c channel peer) state a (binding_same (λ b. b.tuple) c channel peer (λ _. refl)) (binding_same (λ b. b.family) c channel peer (λ _. refl)) his held.found in
+    let found = found_changed tuple owner family (binding (bound_for setup) c channel peer) state a (binding_same (λ b. b.tuple) (bound_for setup) c channel peer (λ _. refl)) (binding_same (λ b. b.family) (bound_for setup) c channel peer (λ _. refl)) his held.found in
     let ends = subst (λ (m : ℕ). m ≤ a.until) (sym (end_same tuple user family number first h since (ap (is_ended user number) asked) (not_refreshed tuple user family h (ap refreshed_in reply)))) held.ends in
     let soon : SomeOf (Permits tuple user dest.ip n) (h ∷ since) → n < c + seconds 300 = λ some. elim some [
       | inl p ↦ subst (λ (m : ℕ). n < m + seconds 300) moment p.lasts
       | inr more ↦ held.soon more
     ] in
+    let long_soon : IsLong tuple user dest.ip n (h ∷ since) → n < c + seconds 600 = λ some. elim some [
+      | inl b ↦ subst (λ (m : ℕ). n < m + seconds 600) moment b.binds.lasts
+      | inr more ↦ held.long_soon more.1
+    ] in
+    let at_least = least_300 setup in
+    let at_once : IsLong tuple user dest.ip n (h ∷ since) → setup.channel_permits ≡ true → n < c + seconds (bound_for setup) = λ some on. subst (λ (k : ℕ). n < c + seconds k) (sym (cond-true setup.channel_permits 600 300 on)) (long_soon some) in
     let bound_soon : (k : ℕ) → SomeOf (Binds tuple user k dest n) (h ∷ since) → n < c + seconds 600 = λ k some. elim some [
       | inl p ↦ subst (λ (m : ℕ). n < m + seconds 600) moment p.lasts
       | inr more ↦ held.bound_soon k more
@@ -189,18 +215,27 @@ bind_on tuple user number first dest n h since owner channel peer state le momen
     let e : asks tuple owner (bind channel peer) ≡ asks tuple user p.request = sym asked ∙ p.asked in
     let r : p.request ≡ bind channel peer = cc in
     subst (λ (x : Request). names dest.ip x ≡ true) r p.named in
-    cond_both (peer.ip.family == a.family) (bound_after c channel peer a) a (λ (b : Relay). relay_of tuple family (changed tuple owner (binding c channel peer) state) ≡ Some b → OuterStep tuple user number first dest n (h ∷ since) (changed tuple owner (binding c channel peer) state))
+    let named_long : (b : BindsTo tuple user dest.ip n h) → is_ip dest.ip peer.ip ≡ true = λ b.
+    let e : asks tuple owner (bind channel peer) ≡ asks tuple user (bind b.channel b.peer) = sym asked ∙ b.binds.asked in
+    let p : b.peer ≡ peer = cc in
+    subst (λ (i : Ip). is_ip dest.ip i ≡ true) (sym b.ip_is ∙ ap (λ (x : Endpoint). x.ip) p) (ip_is_itself dest.ip) in
+    cond_both (peer.ip.family == a.family) (bound_after (bound_for setup) c channel peer a) a (λ (b : Relay). relay_of tuple family (changed tuple owner (binding (bound_for setup) c channel peer) state) ≡ Some b → OuterStep setup tuple user number first dest n (h ∷ since) (changed tuple owner (binding (bound_for setup) c channel peer) state))
     (λ it is. record {
-      a = bound_after c channel peer a;
+      a = bound_after (bound_for setup) c channel peer a;
       found = is;
       user_is = held.user_is;
       number_is = held.number_is;
       ends = ends;
       permits = λ some. elim some [
-        | inl p ↦ exactly_300 c n dest.ip (peers_of a (peer ∷ [])) a.permissions le (among dest.ip a (peer ∷ []) same (or_left (is_ip dest.ip peer.ip) false (named p))) ∙ lt-ltb n (c + seconds 300) (subst (λ (m : ℕ). n < m + seconds 300) moment p.lasts)
-        | inr more ↦ all_stay c n dest.ip (peers_of a (peer ∷ [])) a.permissions le (held.soon more) (held.permits more)
+        | inl p ↦ exactly_for (bound_for setup) c n dest.ip peer.ip a.permissions (named p) ∙ lt-ltb n (c + seconds (bound_for setup)) (let s = soon (inl p) in omega (arith, s, at_least))
+        | inr more ↦ one_stays (bound_for setup) c n dest.ip peer.ip a.permissions le (let s = soon (inr more) in omega (arith, s, at_least)) (held.permits more)
       ];
       soon = soon;
+      permits_long = λ on some. elim some [
+        | inl b ↦ exactly_for (bound_for setup) c n dest.ip peer.ip a.permissions (named_long b) ∙ lt-ltb n (c + seconds (bound_for setup)) (at_once (inl b) on)
+        | inr more ↦ one_stays (bound_for setup) c n dest.ip peer.ip a.permissions le (at_once (inr more) on) (held.permits_long on more.1)
+      ];
+      long_soon = long_soon;
       bound = λ k some. elim some [
         | inl p ↦
             let e : asks tuple owner (bind channel peer) ≡ asks tuple user (bind k dest) = sym asked ∙ p.asked in
@@ -224,6 +259,11 @@ bind_on tuple user number first dest n h since owner channel peer state le momen
         | inr more ↦ held.permits more
       ];
       soon = soon;
+      permits_long = λ on some. elim some [
+        | inl b ↦ absurd (false≢true (sym other ∙ eq-eqb peer.ip.family a.family (ap (λ (i : Ip). i.family) (sym (ip_same dest.ip peer.ip (named_long b))) ∙ same)))
+        | inr more ↦ held.permits_long on more.1
+      ];
+      long_soon = long_soon;
       bound = λ k some. elim some [
         | inl p ↦
             let e : asks tuple owner (bind channel peer) ≡ asks tuple user (bind k dest) = sym asked ∙ p.asked in

@@ -31,6 +31,7 @@ plain_setup = record {
   has_family = λ f. (f == 1) || (f == 2);
   supports_dont_fragment = false;
   passes_icmp = false;
+  channel_permits = false;
 }
 
 -- All IP addresses are allowed but number 66, and all ports but 99
@@ -230,6 +231,49 @@ data_cases =
     ∷ on 910 (asks_from 11 alice (permit (address 23 ∷ address 24 ∷ []))) (yes 11)
     ∷ before 1001 (sends_on (client 11) 0x4000 bytes) (to_peer 0 (address 21) false bytes)
     ∷ on 1001 (sends_on (client 11) 0x4000 bytes) nothing
+    ∷ []
+
+-- Channels that permit as long as they last. Alice's channel does so until a CreatePermission request
+-- for the same IP address; Bob sends ChannelBind requests alone
+abbrev pub channel_setup : Setup
+channel_setup = record plain_setup { channel_permits = true }
+
+-- another port of peer 21
+abbrev pub near_21 : Endpoint
+near_21 = record { ip = record { family = 1; number = 21 }; port = 3480 }
+
+abbrev pub channel_cases : List Case
+channel_cases =
+    on 1 (asks_from 11 alice (allocate 1 (Some 1000) (ipv4_want 31 ∷ [])))
+    (gets 11 (ipv4_given 0 31 ∷ []) 1000)
+    ∷ on 1 (asks_from 13 bob (allocate 1 (Some 1000) (ipv4_want 33 ∷ [])))
+    (gets 13 (ipv4_given 1 33 ∷ []) 1000)
+    ∷ on 1 (arrives 0 (address 21) bytes) nothing
+    ∷ on 2 (asks_from 13 bob (bind 0x4000 (address 23))) (yes 13)
+    ∷ on 2 (asks_from 11 alice (permit (address 21 ∷ []))) (yes 11)
+    ∷ on 3 (asks_from 11 alice (bind 0x4000 (address 21))) (yes 11)
+    ∷ on 3 (asks_from 11 alice (permit (address 22 ∷ []))) (yes 11)
+    ∷ before 303 (arrives 0 (address 22) bytes) (to_client (client 11) (address 22) bytes)
+    ∷ on 303 (arrives 0 (address 22) bytes) nothing
+    ∷ on 303 (arrives 0 (address 21) bytes) (to_client_on (client 11) 0x4000 bytes)
+    ∷ on 303 (arrives 0 near_21 bytes) (to_client (client 11) near_21 bytes)
+    ∷ on 303 (sends (client 11) near_21 false bytes) (to_peer 0 near_21 false bytes)
+    ∷ on 502 (asks_from 13 bob (bind 0x4000 (address 23))) (yes 13)
+    ∷ under 602 (arrives 0 (address 21) bytes) nothing
+    ∷ before 603 (arrives 0 (address 21) bytes) (to_client_on (client 11) 0x4000 bytes)
+    ∷ on 603 (arrives 0 (address 21) bytes) nothing
+    ∷ on 603 (sends (client 11) (address 21) false bytes) nothing
+    ∷ on 603 (sends_on (client 11) 0x4000 bytes) nothing
+    ∷ on 603 (arrives 1 (address 23) bytes) (to_client_on (client 13) 0x4000 bytes)
+    ∷ on 604 (asks_from 11 alice (bind 0x4000 (address 21))) (yes 11)
+    ∷ on 605 (asks_from 11 alice (permit (address 21 ∷ []))) (yes 11)
+    ∷ before 905 (arrives 0 (address 21) bytes) (to_client_on (client 11) 0x4000 bytes)
+    ∷ on 905 (arrives 0 (address 21) bytes) nothing
+    ∷ on 905 (sends_on (client 11) 0x4000 bytes) (to_peer 0 (address 21) false bytes)
+    ∷ on 906 (asks_from 11 alice (bind 0x4000 (address 21))) (yes 11)
+    ∷ on 906 (arrives 0 (address 21) bytes) (to_client_on (client 11) 0x4000 bytes)
+    ∷ before 1001 (arrives 1 (address 23) bytes) (to_client_on (client 13) 0x4000 bytes)
+    ∷ on 1001 (arrives 1 (address 23) bytes) nothing
     ∷ []
 
 -- ICMP, on a server that relays it

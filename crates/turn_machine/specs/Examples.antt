@@ -26,6 +26,7 @@ small_setup = record {
   has_family = λ f. (f == 1) || (f == 2);
   supports_dont_fragment = true;
   passes_icmp = true;
+  channel_permits = false;
 }
 
 -- all IP addresses but number 66

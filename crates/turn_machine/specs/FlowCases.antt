@@ -67,3 +67,19 @@ flow_cases =
     ∷ after (come 1001 ticks ∷ bound_again) 11 0x4000 None
     ∷ after (come 900 (asks (client 11) alice (refresh None (Some 0))) ∷ bound_again) 11 0x4000 None
     ∷ []
+
+-- if channels permit as long as they last
+abbrev pub channel_flow_cases : List FlowCase
+channel_flow_cases =
+    after two_clients 11 0x4000 (to 0 21 602)
+    ∷ after two_clients 12 0x4000 (to 1 23 604)
+    ∷ after (come 302 ticks ∷ two_clients) 11 0x4000 (to 0 21 602)
+    ∷ after (come 602 ticks ∷ two_clients) 11 0x4000 None
+    ∷ after (come 6 (asks (client 11) alice (permit (address 21 ∷ []))) ∷ two_clients) 11 0x4000
+    (to 0 21 306)
+    ∷ after (come 6 (asks (client 11) alice (permit (address 22 ∷ []))) ∷ two_clients) 11 0x4000
+    (to 0 21 602)
+    ∷ after permitted_again 11 0x4000 (to 0 21 602)
+    ∷ after (come 310 (asks (client 11) alice (bind 0x4000 (address 21))) ∷ two_clients) 11 0x4000
+    (to 0 21 910)
+    ∷ []

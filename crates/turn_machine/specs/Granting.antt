@@ -7,7 +7,7 @@ use Rattle.stun_endpoints.specs.declared.endpoints.Endpoint.{Endpoint}
 use Rattle.stun_endpoints.specs.declared.endpoints.FiveTuple.{FiveTuple}
 use Rattle.stun_endpoints.specs.Endpoints.{is_ip, is_tuple}
 use Rattle.turn_machine.specs.Lists.{SomeOf}
-use Rattle.turn_machine.specs.Relays.{seconds, Channel, Relay, Setup, Rules, State}
+use Rattle.turn_machine.specs.Relays.{seconds, Channel, Relay, Setup, bound_for, Rules, State}
 use Rattle.turn_machine.specs.Events.{Offer, Want, Given, Missing, allocated, refreshed, done, answers}
 use Rattle.turn_machine.specs.Steps.{Step}
 use Rattle.turn_machine.specs.Rows.{permissions_after, with_channel}
@@ -133,12 +133,12 @@ permits_at now ip a = list_any (λ p. is_ip ip p.ip && nat_lt now p.until) a.per
 abbrev pub channel_at : (now number : ℕ) → Relay → Option Channel
 channel_at now number a = find (λ c. (c.number == number) && nat_lt now c.until) a.channels
 
--- a permission that lasts exactly 300 seconds from a moment on
-pub record IsPermittedFrom (tuple : FiveTuple) (peer : Endpoint) (now : ℕ) (state : State) : Type 0
-  where
-    pub relay : Relay
-    pub is : relay_of tuple peer.ip.family state ≡ Some relay
-    pub lasts : (m : ℕ) → now ≤ m → permits_at m peer.ip relay ≡ nat_lt m (now + seconds 300)
+-- a permission that lasts exactly so many seconds from a moment on
+pub record IsPermittedFrom (tuple : FiveTuple) (peer : Endpoint) (lifetime now : ℕ) (state : State)
+    : Type 0 where
+  pub relay : Relay
+  pub is : relay_of tuple peer.ip.family state ≡ Some relay
+  pub lasts : (m : ℕ) → now ≤ m → permits_at m peer.ip relay ≡ nat_lt m (now + seconds lifetime)
 
 -- a channel that lasts exactly 600 seconds from a moment on
 pub record IsBoundFrom (tuple : FiveTuple) (number : ℕ) (peer : Endpoint) (now : ℕ) (state : State)
@@ -179,14 +179,14 @@ pub record IsRefreshed (tuple : FiveTuple) (wanted : Option ℕ) (granted : ℕ)
 pub record ArePermitted (tuple : FiveTuple) (peers : List Endpoint) (old : State) (s : Step)
     : Type 0 where
   pub output : s.output ≡ answers tuple done
-  pub each : AllByRecursion (λ peer. IsPermittedFrom tuple peer old.clock s.state) peers
+  pub each : AllByRecursion (λ peer. IsPermittedFrom tuple peer 300 old.clock s.state) peers
   pub others : OthersStay tuple old s.state
 
-pub record IsBound (tuple : FiveTuple) (number : ℕ) (peer : Endpoint) (old : State) (s : Step)
-    : Type 0 where
+pub record IsBound (setup : Setup) (tuple : FiveTuple) (number : ℕ) (peer : Endpoint)
+    (old : State) (s : Step) : Type 0 where
   pub output : s.output ≡ answers tuple done
   pub channel : IsBoundFrom tuple number peer old.clock s.state
-  pub permission : IsPermittedFrom tuple peer old.clock s.state
+  pub permission : IsPermittedFrom tuple peer (bound_for setup) old.clock s.state
   pub others : OthersStay tuple old s.state
 
 -- ---- An Allocate request that comes again

@@ -1,7 +1,7 @@
 -- The state of a TURN server (RFC 8656, sections 6, 9 and 12): its relayed addresses that haven't
 -- expired. An allocation is the one or two relayed addresses of a 5-tuple, at most one of each
 -- family. All moments are nanoseconds of the caller's clock, from its start.
-use Rattle.std.specs.Prelude.{ℕ, ◌*◌, Bool, ◌&&◌, List, length, count_by, nat_lt, ◌==◌}
+use Rattle.std.specs.Prelude.{ℕ, ◌*◌, Bool, ◌&&◌, List, length, count_by, nat_lt, ◌==◌, if◌then◌else◌}
 use Rattle.std.specs.List.{list_any}
 use Rattle.stun_endpoints.specs.declared.endpoints.Ip.{Ip}
 use Rattle.stun_endpoints.specs.declared.endpoints.Endpoint.{Endpoint}
@@ -29,7 +29,8 @@ pub record Relay : Type 0 where
 -- Set once, by the caller: the most relayed addresses, in all and for one user; the most
 -- permissions and channels of each; the greatest lifetime, in seconds; the last channel number,
 -- which is 0x4FFF, or 0x7FFF to serve clients of RFC 5766; the families that the server supports;
--- whether it can set the DF bit, and whether it relays ICMP
+-- whether it can set the DF bit, whether it relays ICMP, and whether the permission of a ChannelBind
+-- request lasts as long as the channel
 pub record Setup : Type 0 where
   pub most_relays : ℕ
   pub most_of_user : ℕ
@@ -40,6 +41,12 @@ pub record Setup : Type 0 where
   pub has_family : ℕ → Bool
   pub supports_dont_fragment : Bool
   pub passes_icmp : Bool
+  pub channel_permits : Bool
+
+-- How many seconds the permission of a ChannelBind request lasts: 300 (9); or as long as the channel,
+-- which departs from the RFC
+abbrev pub bound_for : Setup → ℕ
+bound_for setup = if setup.channel_permits then 600 else 300
 
 -- The rules in force at an event: the IP addresses with which clients may exchange data, and the
 -- transport addresses to which they may send

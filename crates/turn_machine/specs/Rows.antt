@@ -53,14 +53,18 @@ has_wanted tuple family state = option_map_or (λ f. has_of tuple f state) famil
 
 -- ---- CreatePermission (9 and 10.2)
 
--- One more permission, for 300 seconds. It replaces the one for the same IP address, and expired
+-- One more permission, for so many seconds. It replaces the one for the same IP address, and expired
 -- ones go
 abbrev pub is_other_permission : ℕ → Ip → Permission → Bool
 is_other_permission now ip p = not (is_ip ip p.ip) && nat_lt now p.until
 
+abbrev pub with_permission_for : (lifetime : ℕ) → ℕ → Ip → List Permission → List Permission
+with_permission_for lifetime now ip ps =
+    record { ip = ip; until = now + seconds lifetime } ∷ filter (is_other_permission now ip) ps
+
+-- CreatePermission permits for 300 seconds
 abbrev pub with_permission : ℕ → Ip → List Permission → List Permission
-with_permission now ip ps =
-    record { ip = ip; until = now + seconds 300 } ∷ filter (is_other_permission now ip) ps
+with_permission now ip ps = with_permission_for 300 now ip ps
 
 abbrev pub with_permissions : ℕ → List Endpoint → List Permission → List Permission
 with_permissions now [] ps = ps

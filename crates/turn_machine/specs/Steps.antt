@@ -5,11 +5,11 @@ use Rattle.std.specs.List.{list_any}
 use Rattle.std.specs.Option.{option_map_or}
 use Rattle.stun_endpoints.specs.declared.endpoints.Endpoint.{Endpoint}
 use Rattle.stun_endpoints.specs.declared.endpoints.FiveTuple.{FiveTuple}
-use Rattle.turn_machine.specs.Relays.{seconds, Relay, Setup, Rules, State, is_users, is_owned, is_at}
+use Rattle.turn_machine.specs.Relays.{seconds, Relay, Setup, bound_for, Rules, State, is_users, is_owned, is_at}
 use Rattle.turn_machine.specs.Events.{Want, Request, allocate, unfit_allocate, refresh, permit, bind, unfit, Event, asks, sends, sends_on, arrives, bounces, ends, ends_user, ticks, refreshed, done, refused, Output, answers, nothing}
 use Rattle.turn_machine.specs.Times.{at, numbers, over_at, granted_for, refreshed_for, left_of}
 use Rattle.turn_machine.specs.Opening.{opens, allocation_answer}
-use Rattle.turn_machine.specs.Rows.{permissions_after, with_channel, fault}
+use Rattle.turn_machine.specs.Rows.{with_permission_for, permissions_after, with_channel, fault}
 use Rattle.turn_machine.specs.Data.{relayed}
 
 pub record Step : Type 0 where
@@ -45,10 +45,11 @@ lasting family until a = if is_wanted family a then record a { until = until } e
 abbrev pub permitting : ℕ → List Endpoint → Relay → Relay
 permitting now peers a = record a { permissions = permissions_after now peers a }
 
-abbrev pub binding : ℕ → (number : ℕ) → Endpoint → Relay → Relay
-binding now number peer a =
+-- a channel, and a permission for so many seconds (12.2)
+abbrev pub binding : (lifetime now number : ℕ) → Endpoint → Relay → Relay
+binding lifetime now number peer a =
     if peer.ip.family == a.family then record a {
-      permissions = permissions_after now (peer ∷ []) a;
+      permissions = with_permission_for lifetime now peer.ip a.permissions;
       channels = with_channel now number peer a.channels;
     } else a
 
@@ -80,7 +81,8 @@ fulfils setup tuple user (refresh family lifetime) state =
 fulfils setup tuple user (permit peers) state =
     keeping (changed tuple user (permitting state.clock peers) state) (answers tuple done)
 fulfils setup tuple user (bind number peer) state =
-    keeping (changed tuple user (binding state.clock number peer) state) (answers tuple done)
+    keeping (changed tuple user (binding (bound_for setup) state.clock number peer) state)
+    (answers tuple done)
 fulfils setup tuple user (unfit code) state = keeping state (answers tuple done)
 
 -- ---- All requests

@@ -7,7 +7,7 @@ use Rattle.stun_endpoints.specs.declared.endpoints.Ip.{Ip}
 use Rattle.stun_endpoints.specs.declared.endpoints.Endpoint.{Endpoint}
 use Rattle.stun_endpoints.specs.declared.endpoints.FiveTuple.{FiveTuple}
 use Rattle.stun_endpoints.specs.Endpoints.{is_ip, is_tuple}
-use Rattle.turn_machine.specs.Lists.{SomeOf}
+use Rattle.turn_machine.specs.Lists.{SomeOf, SomeSince}
 use Rattle.turn_machine.specs.Relays.{seconds, Setup, Rules}
 use Rattle.turn_machine.specs.Events.{Want, Request, allocate, unfit_allocate, refresh, permit, bind, unfit, Event, asks, sends, sends_on, arrives, bounces, ends, ends_user, Given, Missing, allocated, refreshed, done, Output, answers, to_peer, to_client, to_client_on, to_client_icmp, nothing}
 use Rattle.turn_machine.specs.Runs.{Happening}
@@ -95,8 +95,28 @@ pub record Binds (tuple : FiveTuple) (user channel : ℕ) (peer : Endpoint) (now
   pub came : h.moment ≤ now
   pub lasts : now < h.moment + seconds 600
 
-abbrev pub ArePermitting : FiveTuple → Endpoint → (now user : ℕ) → List Happening → Type 0
-ArePermitting tuple peer now user since = SomeOf (Permits tuple user peer.ip now) since
+-- within the last 600 seconds one bound a channel to a peer with this IP address
+pub record BindsTo (tuple : FiveTuple) (user : ℕ) (ip : Ip) (now : ℕ) (h : Happening) : Type 0 where
+  pub channel : ℕ
+  pub peer : Endpoint
+  pub ip_is : peer.ip ≡ ip
+  pub binds : Binds tuple user channel peer now h
+
+-- a CreatePermission request of this user from this client named this IP address and succeeded
+pub record Renews (tuple : FiveTuple) (user : ℕ) (ip : Ip) (h : Happening) : Type 0 where
+  pub peers : List Endpoint
+  pub asked : h.event ≡ asks tuple user (permit peers)
+  pub named : names ip (permit peers) ≡ true
+  pub succeeded : h.output ≡ answers tuple done
+
+-- Within the last 300 seconds a request named the peer's IP address. Or, if channels permit as long as
+-- they last, one bound a channel to a peer with this IP address within the last 600, and no
+-- CreatePermission request has named the address since
+abbrev pub ArePermitting : Setup → FiveTuple → Endpoint → (now user : ℕ) → List Happening → Type 0
+ArePermitting setup tuple peer now user since =
+    SomeOf (Permits tuple user peer.ip now) since
+    ⊎ ((setup.channel_permits ≡ true)
+    × SomeSince (BindsTo tuple user peer.ip now) (λ h. ¬ (Renews tuple user peer.ip h)) since)
 
 abbrev pub AreBinding : FiveTuple → (channel : ℕ) → Endpoint → (now user : ℕ) → List Happening
     → Type 0
@@ -134,20 +154,20 @@ IsRight setup earlier now rules event (to_peer number peer dont_fragment bytes) 
     (tuple : FiveTuple) × ((rules.allows_ip peer.ip && rules.allows_port peer) ≡ true)
     × (((event ≡ sends tuple peer dont_fragment bytes)
     × (dont_fragment ≡ true → setup.supports_dont_fragment ≡ true)
-    × IsWarranted earlier now tuple number peer (ArePermitting tuple peer now))
+    × IsWarranted earlier now tuple number peer (ArePermitting setup tuple peer now))
     ⊎ ((channel : ℕ) × (event ≡ sends_on tuple channel bytes) × (dont_fragment ≡ false)
     × IsWarranted earlier now tuple number peer (AreBinding tuple channel peer now)))
 IsRight setup earlier now rules event (to_client tuple peer bytes) =
     (number : ℕ) × (event ≡ arrives number peer bytes) × (rules.allows_ip peer.ip ≡ true)
-    × IsWarranted earlier now tuple number peer (ArePermitting tuple peer now)
+    × IsWarranted earlier now tuple number peer (ArePermitting setup tuple peer now)
 IsRight setup earlier now rules event (to_client_on tuple channel bytes) =
     (number : ℕ) × (peer : Endpoint) × (event ≡ arrives number peer bytes)
     × (rules.allows_ip peer.ip ≡ true)
     × IsWarranted earlier now tuple number peer
-    (λ user since. ArePermitting tuple peer now user since
+    (λ user since. ArePermitting setup tuple peer now user since
     × AreBinding tuple channel peer now user since)
 IsRight setup earlier now rules event (to_client_icmp tuple peer icmp) =
     (number : ℕ) × (event ≡ bounces number peer icmp) × (rules.allows_ip peer.ip ≡ true)
     × (setup.passes_icmp ≡ true) × (is_reported peer.ip.family icmp.type_number ≡ true)
-    × IsWarranted earlier now tuple number peer (ArePermitting tuple peer now)
+    × IsWarranted earlier now tuple number peer (ArePermitting setup tuple peer now)
 IsRight setup earlier now rules event nothing = Unit {0}

@@ -36,6 +36,8 @@
 //! - The rules are asked at each datagram too, and not only at requests.
 //! - ChannelData to a peer needs its channel, and data from a peer a permission. A channel lasts 600 seconds
 //!   and its permission 300, so a client that refreshes only the channel stops receiving after 300 seconds.
+//!   With `channel_permits`, which departs from the RFC, the permission of a ChannelBind request lasts 600
+//!   seconds too, unless a CreatePermission request for the same IP address sets it to 300.
 //! - A token serves only the user that reserved it, and a user has at most as many reservations as its quota.
 //! - Numbers of sockets only grow, so that a late datagram never reaches another client.
 //!
@@ -43,9 +45,9 @@
 //!
 //! The laws speak of requests, responses and moments in words of their own, which compare by equality. Of the
 //! machine's words they use those that a law determines: `at` and `over_at` (`places_are_for_the_live`),
-//! `seconds`, `granted_for` and `refreshed_for` (`fit_is_granted`), `permissions_after` and `with_channel`
-//! (`refusals_are_exact`), `flow_of` (`flows_are_right`). `wrong-definitions.txt` has wrong machines, each
-//! with the law that refuses it.
+//! `seconds`, `granted_for`, `refreshed_for` and `bound_for` (`fit_is_granted`), `permissions_after` and
+//! `with_channel` (`refusals_are_exact`), `flow_of` (`flows_are_right`). `wrong-definitions.txt` has wrong
+//! machines, each with the law that refuses it.
 #![tactic(auto)]
 
 mod grants;
@@ -57,7 +59,7 @@ ghost use Rattle.stun_endpoints.specs.declared.endpoints.Ip.{Ip};
 ghost use Rattle.stun_endpoints.specs.declared.endpoints.Endpoint.{Endpoint};
 ghost use Rattle.stun_endpoints.specs.declared.endpoints.FiveTuple.{FiveTuple};
 ghost use Rattle.stun_endpoints.specs.Endpoints.{is_ip, is_endpoint, is_tuple};
-ghost use Rattle.turn_machine.specs.Relays.{seconds, Channel, Relay, Setup, Rules, State};
+ghost use Rattle.turn_machine.specs.Relays.{seconds, Channel, Relay, Setup, bound_for, Rules, State};
 ghost use Rattle.turn_machine.specs.Events.{Event, ticks, Icmp, Offer, Want, sends, sends_on, bounces, to_peer, to_client, to_client_on, to_client_icmp, allocate, refresh, permit, bind, unfit, permit_request, asks, arrives, allocated, refused, answers, nothing};
 ghost use Rattle.turn_machine.specs.Times.{at, over_at, granted_for, refreshed_for};
 ghost use Rattle.turn_machine.specs.Steps.{step};
@@ -73,8 +75,8 @@ ghost use Rattle.turn_machine.specs.Apart.{is_own, own, sights, comes_to};
 ghost use Rattle.turn_machine.specs.Examples.{small_setup, dual_setup, session, expected, flood, flood_expected, closed_by, dual, dual_expected, outputs};
 ghost use Rattle.turn_machine.specs.Reserving.{Reservation, OuterState, Outer, plain, reserves, claims, outer_step, OuterTimed, outer_run, inner_run, outer_outputs};
 ghost use Rattle.turn_machine.specs.Reservations.{live_at, count_of, IsBelowQuota, held_for, made_by, IsReserved};
-ghost use Rattle.turn_machine.specs.Edges.{outputs_of, expected_of, plain_setup, icmp_setup, requests, data_cases, icmp_cases, held_outputs_of, held_tokens, held_cases};
-ghost use Rattle.turn_machine.specs.FlowCases.{flow_cases};
+ghost use Rattle.turn_machine.specs.Edges.{outputs_of, expected_of, plain_setup, icmp_setup, channel_setup, requests, data_cases, icmp_cases, channel_cases, held_outputs_of, held_tokens, held_cases};
+ghost use Rattle.turn_machine.specs.FlowCases.{flow_cases, channel_flow_cases};
 ghost use Rattle.turn_machine.specs.Bounds.{IsWithin};
 ghost use Rattle.turn_machine.specs.Numbers.{all_closed, kept_times, Gives, IsGiven};
 
@@ -118,9 +120,9 @@ pub fn places_are_for_the_live()
 /// nothing else; with ADDITIONAL-ADDRESS-FAMILY two, or the one that is possible with the reason for the
 /// other: 440 if the server doesn't support the family, 508 if the caller has no socket for it or if quota
 /// or room leave one place. A Refresh request sets the end, or ends what it is for and reports it.
-/// CreatePermission permits each peer for 300 seconds; ChannelBind binds for 600 and permits for 300. Other
-/// clients' relayed addresses stay as they are. An Allocate request that comes again is answered with all
-/// that the client has, and changes nothing.
+/// CreatePermission permits each peer for 300 seconds; ChannelBind binds for 600 and permits for 300, or with
+/// `channel_permits` for 600. Other clients' relayed addresses stay as they are. An Allocate request that
+/// comes again is answered with all that the client has, and changes nothing.
 pub fn fit_is_granted()
     ensures one { (setup : Setup) (rules : Rules) (state : State) (now : ℕ) (tuple : FiveTuple)
         (user id : ℕ) (lifetime : Option ℕ) (want : Want) (offer : Offer)
@@ -187,15 +189,16 @@ pub fn fit_is_granted()
     ensures bound { (setup : Setup) (rules : Rules) (state : State) (now : ℕ) (tuple : FiveTuple)
         (user number : ℕ) (peer : Endpoint)
         → CanBind setup rules tuple user number peer (at now state)
-        → IsBound tuple number peer (at now state)
+        → IsBound setup tuple number peer (at now state)
         (step setup rules state now (asks tuple user (bind number peer))) }
     ensures again { (setup : Setup) (rules : Rules) (events : List Timed) (now : ℕ)
         (tuple : FiveTuple) (user id : ℕ) (lifetime : Option ℕ) (wants : List Want)
         → let s = at now (run setup events) in IsAgain tuple user id s
         → IsRepeated setup tuple wants s (step setup rules (run setup events) now
         (asks tuple user (allocate id lifetime wants))) }
-    ensures lifetimes { (wanted greatest : ℕ)
+    ensures lifetimes { (setup : Setup) (wanted greatest : ℕ)
         → (seconds wanted ≡ wanted * 1_000_000_000)
+        × (bound_for setup ≡ if setup.channel_permits then 600 else 300)
         × (granted_for None greatest ≡ 600) × (refreshed_for None greatest ≡ 600)
         × (granted_for (Some wanted) greatest ≡ max 600 (min wanted greatest))
         × (refreshed_for (Some 0) greatest ≡ 0)
@@ -277,10 +280,11 @@ pub fn table_is_bounded()
 /// between a client and a peer that the user of an allocation asked for. At that moment the allocation is
 /// live, by the newest Allocate or Refresh request of this user from this client. Since it was opened, the
 /// user asked from this client for what the relaying needs: a Send indication, and anything to the client,
-/// for a permission for the peer's IP address within the last 300 seconds; ChannelData to a peer for this
-/// channel with this very peer within the last 600; ChannelData to a client for both. The rules allowed the
-/// peer when the user asked, and allow it now. A server that drops data meets this law: the next one is
-/// about that.
+/// for a permission for the peer's IP address within the last 300 seconds, or with `channel_permits` for a
+/// channel of a peer with this IP address within the last 600, if no CreatePermission request has named the
+/// address since; ChannelData to a peer for this channel with this very peer within the last 600;
+/// ChannelData to a client for both. The rules allowed the peer when the user asked, and allow it now. A
+/// server that drops data meets this law: the next one is about that.
 pub fn relaying_is_warranted()
     ensures { (setup : Setup) (earlier : List Timed) (timed : Timed)
         → let h = happening setup (run setup earlier) timed in
@@ -296,7 +300,7 @@ pub fn what_is_permitted_works()
     ensures out { (setup : Setup) (earlier : List Timed) (now : ℕ) (rules : Rules)
         (tuple : FiveTuple) (number : ℕ) (peer : Endpoint) (dont_fragment : Bool) (bytes : List ℕ)
         → let moment = (at now (run setup earlier)).clock in
-        IsDue (history setup earlier) moment tuple number peer (ArePermitting tuple peer moment)
+        IsDue (history setup earlier) moment tuple number peer (ArePermitting setup tuple peer moment)
         → (rules.allows_ip peer.ip && rules.allows_port peer) ≡ true
         → (dont_fragment ≡ true → setup.supports_dont_fragment ≡ true)
         → output_of setup earlier now rules (sends tuple peer dont_fragment bytes)
@@ -312,13 +316,13 @@ pub fn what_is_permitted_works()
     ensures back { (setup : Setup) (earlier : List Timed) (now : ℕ) (rules : Rules)
         (tuple : FiveTuple) (number : ℕ) (peer : Endpoint) (bytes : List ℕ)
         → let moment = (at now (run setup earlier)).clock in
-        IsDue (history setup earlier) moment tuple number peer (ArePermitting tuple peer moment)
+        IsDue (history setup earlier) moment tuple number peer (ArePermitting setup tuple peer moment)
         → rules.allows_ip peer.ip ≡ true
         → Reaches tuple peer bytes (output_of setup earlier now rules (arrives number peer bytes)) }
     ensures news { (setup : Setup) (earlier : List Timed) (now : ℕ) (rules : Rules)
         (tuple : FiveTuple) (number : ℕ) (peer : Endpoint) (icmp : Icmp)
         → let moment = (at now (run setup earlier)).clock in
-        IsDue (history setup earlier) moment tuple number peer (ArePermitting tuple peer moment)
+        IsDue (history setup earlier) moment tuple number peer (ArePermitting setup tuple peer moment)
         → rules.allows_ip peer.ip ≡ true → setup.passes_icmp ≡ true
         → is_reported peer.ip.family icmp.type_number ≡ true
         → output_of setup earlier now rules (bounces number peer icmp)
@@ -332,7 +336,7 @@ pub fn bound_channels_are_used()
         (tuple : FiveTuple) (number : ℕ) (peer : Endpoint) (channel : ℕ) (bytes : List ℕ)
         → let moment = (at now (run setup earlier)).clock in
         IsDue (history setup earlier) moment tuple number peer
-        (λ user since. ArePermitting tuple peer moment user since
+        (λ user since. ArePermitting setup tuple peer moment user since
         × AreBinding tuple channel peer moment user since)
         → rules.allows_ip peer.ip ≡ true
         → output_of setup earlier now rules (arrives number peer bytes)
@@ -340,7 +344,7 @@ pub fn bound_channels_are_used()
     ensures unbound { (setup : Setup) (earlier : List Timed) (now : ℕ) (rules : Rules)
         (tuple : FiveTuple) (number : ℕ) (peer : Endpoint) (bytes : List ℕ)
         → let moment = (at now (run setup earlier)).clock in
-        IsDue (history setup earlier) moment tuple number peer (ArePermitting tuple peer moment)
+        IsDue (history setup earlier) moment tuple number peer (ArePermitting setup tuple peer moment)
         → ¬ (IsBoundTo tuple peer moment (history setup earlier)) → rules.allows_ip peer.ip ≡ true
         → output_of setup earlier now rules (arrives number peer bytes)
         ≡ to_client tuple peer bytes }
@@ -446,6 +450,9 @@ pub fn sessions_go_so()
     ensures icmp { outputs_of icmp_setup icmp_cases ≡ expected_of icmp_cases }
     ensures flows { map (λ c. flow_of (run plain_setup c.earlier) c.tuple c.channel) flow_cases
         ≡ map (λ c. c.flow) flow_cases }
+    ensures channels { outputs_of channel_setup channel_cases ≡ expected_of channel_cases }
+    ensures channel_flows { map (λ c. flow_of (run channel_setup c.earlier) c.tuple c.channel)
+        channel_flow_cases ≡ map (λ c. c.flow) channel_flow_cases }
     ensures held { held_outputs_of plain_setup held_cases ≡ map (λ c. c.reply) held_cases }
     ensures held_tokens { held_tokens plain_setup held_cases ≡ map (λ c. c.token) held_cases }
 {}

@@ -72,4 +72,4 @@ returns-clause-again c = λ setup rules events now tuple user id lifetime wants 
     record { kept = reply.kept; left = reply.left; output = reply.output; none_before = reply.none_before; one_within = reply.one_within }
 
 pub returns-clause-lifetimes : goal.returns-clause-lifetimes
-returns-clause-lifetimes c = λ wanted greatest. (refl, refl, refl, refl, refl, refreshed_exactly wanted greatest)
+returns-clause-lifetimes c = λ setup wanted greatest. (refl, refl, refl, refl, refl, refl, refreshed_exactly wanted greatest)

@@ -28,6 +28,12 @@ returns-clause-icmp c = refl
 pub returns-clause-flows : goal.returns-clause-flows
 returns-clause-flows c = refl
 
+pub returns-clause-channels : goal.returns-clause-channels
+returns-clause-channels c = refl
+
+pub returns-clause-channel_flows : goal.returns-clause-channel_flows
+returns-clause-channel_flows c = refl
+
 pub returns-clause-held : goal.returns-clause-held
 returns-clause-held c = refl
 
