@@ -219,6 +219,25 @@ module _ (user : UserId) (low : user.low < 2 ^ 128) (es : List (Option Entry)) (
       (λ none slot r at. let it = relay_from es ks slot r at in
       subst (λ (x : Relay). is_users (user_number user) x ≡ false) it.relay (for_user user it.e.user low (users slot it.e it.entry) ∙ none slot it.e it.entry)) is
 
+-- a number is of one slot
+pub number_alone : (next : ℕ) (s : State) (ks : List (Option Grants)) → IsTable next s ks → (i j : ℕ) (r q : Relay) → get_or (relays_in s.entries ks) i None ≡ Some r → get_or (relays_in s.entries ks) j None ≡ Some q → r.number ≡ q.number → i ≡ j
+number_alone next s ks t i j r q at also same =
+    let one = relay_from s.entries ks i r at in
+    let other = relay_from s.entries ks j q also in
+    let number = t.numbers i one.e one.entry in
+    let too = t.numbers j other.e other.entry in
+    let low = entry_below s.entries i one.e one.entry in
+    let below = entry_below s.entries j other.e other.entry in
+    let few = t.few in
+    let first = ap (λ (x : Relay). x.number) one.relay in
+    let second = ap (λ (x : Relay). x.number) other.relay in
+    omega (arith, number.1, too.1, low, below, few, first, second, same)
+  where
+    entry_below : (es : List (Option Entry)) (k : ℕ) (e : Entry) → get_or es k None ≡ Some e → k < length es
+    entry_below [] k e there = absurd cc
+    entry_below (x ∷ es) zero e there = omega arith
+    entry_below (x ∷ es) (suc k) e there = let more = entry_below es k e there in omega (arith, more)
+
 -- ---- A new table, and an end
 
 pub relays_none : (n : ℕ) → relays_in (replicate n None) (replicate n None) ≡ replicate n None
@@ -244,6 +263,7 @@ new_table n low s kept entries round kept_is = record {
   near = omega arith;
   below = λ i e at. absurd (none_in n i e (subst (λ (es : List (Option Entry)). get_or es i None ≡ Some e) entries at));
   users = λ i e at. absurd (none_in n i e (subst (λ (es : List (Option Entry)). get_or es i None ≡ Some e) entries at));
+  numbers = λ i e at. absurd (none_in n i e (subst (λ (es : List (Option Entry)). get_or es i None ≡ Some e) entries at));
 }
 
 pub set_none : {X : Type 0} (xs : List (Option X)) (i : ℕ) → get_or xs i None ≡ None → set xs i None ≡ xs
@@ -258,6 +278,17 @@ set_from (y ∷ xs) zero o zero x at = inl at
 set_from (y ∷ xs) zero o (suc j) x at = inr at
 set_from (y ∷ xs) (suc i) o zero x at = inr at
 set_from (y ∷ xs) (suc i) o (suc j) x at = set_from xs i o j x at
+
+-- and the new one is in that slot
+set_at : {X : Type 0} (xs : List (Option X)) (i : ℕ) (o : Option X) (j : ℕ) (x : X) → get_or (set xs i o) j None ≡ Some x → ((j ≡ i) × (o ≡ Some x)) ⊎ (get_or xs j None ≡ Some x)
+set_at [] i o j x at = inr at
+set_at (y ∷ xs) zero o zero x at = inl (refl, at)
+set_at (y ∷ xs) zero o (suc j) x at = inr at
+set_at (y ∷ xs) (suc i) o zero x at = inr at
+set_at (y ∷ xs) (suc i) o (suc j) x at = elim (set_at xs i o j x at) [
+  | inl new ↦ inl (ap suc new.0, new.1)
+  | inr old ↦ inr old
+]
 
 beside_set : (es : List (Option Entry)) (ks : List (Option Grants)) → length ks ≡ length es → ((i : ℕ) → is_some (get_or es i None) ≡ is_some (get_or ks i None))
     → (slot : ℕ) (e : Option Entry) (k : Option Grants) → is_some e ≡ is_some k → (i : ℕ) → is_some (get_or (set es slot e) i None) ≡ is_some (get_or (set ks slot k) i None)
@@ -283,6 +314,10 @@ ended_table next s ks t slot s2 is = subst (λ (z : State). IsTable next z (set 
   users = λ i e at. elim (set_from s.entries slot None i e at) [
     | inl new ↦ absurd cc
     | inr old ↦ t.users i e old
+  ];
+  numbers = λ i e at. elim (set_from s.entries slot None i e at) [
+    | inl new ↦ absurd cc
+    | inr old ↦ t.numbers i e old
   ];
 })
 
@@ -316,6 +351,13 @@ changed_table next s ks t slot e f at number user s2 is = subst (λ (z : State).
   users = λ i x at_i. elim (set_from s.entries slot (Some f) i x at_i) [
     | inl new ↦ let low = t.users slot e at in let same = ap (λ (z : Entry). z.user.low) (some_is f x new) in let both = ap (λ (z : UserId). z.low) user in omega (arith, low, same, both)
     | inr old ↦ t.users i x old
+  ];
+  numbers = λ i x at_i. elim (set_at s.entries slot (Some f) i x at_i) [
+    | inl new ↦
+        let it = t.numbers slot e at in
+        let same = ap (λ (z : Entry). z.number) (some_is f x new.1) in
+        (it.0, omega (arith, it.1, same, number, new.0))
+    | inr old ↦ t.numbers i x old
   ];
 })
 
@@ -353,6 +395,10 @@ opened_table next s ks t slot e g low number user s2 is = subst (λ (z : State).
   users = λ i x at. elim (set_from s.entries slot (Some e) i x at) [
     | inl new ↦ let same = ap (λ (z : Entry). z.user.low) (some_is e x new) in omega (arith, same, user)
     | inr old ↦ t.users i x old
+  ];
+  numbers = λ i x at. elim (set_at s.entries slot (Some e) i x at) [
+    | inl new ↦ let same = ap (λ (z : Entry). z.number) (some_is e x new.1) in (s.round, omega (arith, same, number, new.0))
+    | inr old ↦ t.numbers i x old
   ];
 })
 

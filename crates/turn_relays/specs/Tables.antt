@@ -9,6 +9,10 @@ use Rattle.turn_relays.specs.Relayed.{Grants}
 abbrev pub IsUser : Entry → Type 0
 IsUser e = e.user.low < 2 ^ 128
 
+-- a number is of one slot
+abbrev pub IsNumber : (slot number : ℕ) → Type 0
+IsNumber slot number = (round : ℕ) × (number ≡ round * places + slot)
+
 -- a slot has something kept besides if and only if it has an entry; `next` is above all numbers, and at most the
 -- next number, which is near
 pub record IsTable (next : ℕ) (slots : State) (kept : List (Option Grants)) : Type 0 where
@@ -19,3 +23,4 @@ pub record IsTable (next : ℕ) (slots : State) (kept : List (Option Grants)) : 
   pub near : slots.round * places ≤ next + places
   pub below : (i : ℕ) (e : Entry) → slice_index_or slots.entries i None ≡ Some e → e.number < next
   pub users : (i : ℕ) (e : Entry) → slice_index_or slots.entries i None ≡ Some e → IsUser e
+  pub numbers : (i : ℕ) (e : Entry) → slice_index_or slots.entries i None ≡ Some e → IsNumber i e.number

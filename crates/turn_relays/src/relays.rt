@@ -234,6 +234,14 @@ impl<const P: usize, const C: usize> Relays<P, C> {
         self.slots.find_by_number(number)
     }
 
+    /// A law: a number is of one slot. The function does nothing.
+    pub fn numbers_are_distinct(&self)
+        ensures { (slot other : ℕ) (r s : Relay) → Holds self.now slot r → Holds self.now other s
+            → r.number ≡ s.number → slot ≡ other }
+    {
+        self.slots.len();
+    }
+
     /// Returns the slot of a relayed address of the user, or `None` if the user has none.
     pub fn find_by_user(&self, user: UserId) -> Option<usize>
         ensures some { IfSome result (λ slot. (r : Relay) × Holds self.now slot r
