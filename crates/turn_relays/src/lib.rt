@@ -13,6 +13,8 @@ mod kept;
 mod laws;
 mod permitting;
 mod relays;
+mod seen;
 
 pub use laws::{list_follows_slots, lists_have_slots};
 pub use relays::Relays;
+pub use seen::Relayed;
