@@ -1,7 +1,7 @@
 -- Permissions of distinct IP addresses: each that is inserted leaves as many others as there were, but
 -- for one of its own address.
-use Rattle.std.proofs.Common.{◌≡◌, ℕ, zero, suc, ◌+◌, ◌-◌, ◌<◌, ◌≤◌, Bool, true, false, not, List, [], ◌∷◌, ◌++◌, length, filter, drop, get_or, refl, sym, ap, ◌∙◌, subst, arith}
-use Rattle.std.specs.Prelude.{◌&&◌, ◌||◌, nat_lt}
+use Rattle.std.proofs.Common.{◌≡◌, ℕ, zero, suc, ◌+◌, ◌-◌, ◌<◌, ◌≤◌, Bool, true, false, not, List, [], ◌∷◌, ◌++◌, length, filter, drop, get_or, refl, sym, ap, ◌∙◌, subst, arith, inl, inr}
+use Rattle.std.specs.Prelude.{◌⊎◌, ◌&&◌, ◌||◌, nat_lt}
 use Rattle.std.specs.List.{list_any, AllByRecursion}
 use Rattle.std.proofs.lemmas.Bool.{cond_both, cond-true, cond-false, and_from, and_parts, or_parts, false≢true, lt-ltb}
 use Rattle.stun_endpoints.specs.declared.endpoints.Ip.{Ip}
@@ -9,10 +9,14 @@ use Rattle.stun_endpoints.specs.declared.endpoints.Endpoint.{Endpoint}
 use Rattle.stun_endpoints.specs.Endpoints.{is_ip}
 use Rattle.turn_machine.specs.declared.grants.Permission.{Permission}
 use Rattle.turn_machine.specs.Relays.{seconds}
-use Rattle.turn_machine.specs.Rows.{is_other_permission, with_permission, with_permissions}
+use Rattle.turn_machine.specs.Rows.{is_other_permission, with_permission_for, with_permissions}
 use Rattle.turn_relays.specs.Granted.{AreDistinct}
 use Rattle.std.proofs.lemmas.List.{drop_more}
 use Rattle.turn_machine.proofs.AddressesLemmas.{ip_same}
+
+pub either : (b : Bool) → (b ≡ true) ⊎ (b ≡ false)
+either true = inl refl
+either false = inr refl
 
 neither : (x y : Bool) → x ≡ false → y ≡ false → (x || y) ≡ false
 neither false y isnt nor = nor
@@ -47,12 +51,12 @@ none_other now ip (p ∷ ps) =
     (λ so. neither (is_ip ip p.ip) (list_any (is_of_ip ip) (filter (is_other_permission now ip) ps)) (not_it (is_ip ip p.ip) (nat_lt now p.until) so) (none_other now ip ps))
     (λ _. none_other now ip ps)
 
-pub distinct_with : (now : ℕ) (ip : Ip) (ps : List Permission) → AreDistinct ps → AreDistinct (with_permission now ip ps)
-distinct_with now ip ps apart = (none_other now ip ps, distinct_filter (is_other_permission now ip) ps apart)
+pub distinct_with : (lifetime now : ℕ) (ip : Ip) (ps : List Permission) → AreDistinct ps → AreDistinct (with_permission_for lifetime now ip ps)
+distinct_with lifetime now ip ps apart = (none_other now ip ps, distinct_filter (is_other_permission now ip) ps apart)
 
 pub distinct_all : (now : ℕ) (peers : List Endpoint) (ps : List Permission) → AreDistinct ps → AreDistinct (with_permissions now peers ps)
 distinct_all now [] ps apart = apart
-distinct_all now (peer ∷ peers) ps apart = distinct_with now peer.ip (with_permissions now peers ps) (distinct_all now peers ps apart)
+distinct_all now (peer ∷ peers) ps apart = distinct_with 300 now peer.ip (with_permissions now peers ps) (distinct_all now peers ps apart)
 
 -- ---- How many there are
 
@@ -66,7 +70,7 @@ live_filter now ip (p ∷ ps) =
     (λ so. ((and_parts (not (is_ip ip p.ip)) (nat_lt now p.until) so).1, live_filter now ip ps))
     (λ _. live_filter now ip ps)
 
-live_with : (now : ℕ) (ip : Ip) (ps : List Permission) → AreLive now (with_permission now ip ps)
+live_with : (now : ℕ) (ip : Ip) (ps : List Permission) → AreLive now (with_permission_for 300 now ip ps)
 live_with now ip ps = (lt-ltb now (now + seconds 300) (omega arith), live_filter now ip ps)
 
 both_false : (x y : Bool) → (x || y) ≡ false → (x ≡ false) × (y ≡ false)

@@ -48,7 +48,7 @@ some_of (Some x) is = (x, refl)
 pub kept_beside : (e : Entry) (o : Option Entry) (k : Option Grants) → is_some o ≡ is_some k → o ≡ Some e → (g : Grants) × (k ≡ Some g)
 kept_beside e o k beside is = some_of k (sym beside ∙ ap is_some is)
 
-joined_is : (e : Entry) (g : Grants) (o : Option Entry) (k : Option Grants) → o ≡ Some e → k ≡ Some g → joined o k ≡ Some (relay_of e g)
+pub joined_is : (e : Entry) (g : Grants) (o : Option Entry) (k : Option Grants) → o ≡ Some e → k ≡ Some g → joined o k ≡ Some (relay_of e g)
 joined_is e g o k is too = ap (λ (z : Option Entry). joined z k) is ∙ ap (λ (z : Option Grants). joined (Some e) z) too
 
 -- a slot with an entry has a relayed address
@@ -436,13 +436,17 @@ pub kept_is : (es : List (Option Entry)) (ks : List (Option Grants)) → ((i : �
     → (slot : ℕ) (items : List (Option Grants)) (k : Option Grants) → k ≡ get_or items slot None → items ≡ ks → k ≡ option_map grants_of (get_or (relays_in es ks) slot None)
 kept_is es ks beside slot items k is same = is ∙ (ap (λ (z : List (Option Grants)). get_or z slot None) same ∙ grants_at es ks beside slot)
 
--- the family of a slot's entry is that of its relayed address
+-- the family of a slot's entry, and that of its relayed address
+pub family_of : (es : List (Option Entry)) (slot : ℕ) (entries : List (Option Entry)) (family : ℕ) → family ≡ option_map_or (λ e. e.key.family) (get_or entries slot None) 0 → entries ≡ es
+    → (e : Entry) → get_or es slot None ≡ Some e → family ≡ e.key.family
+family_of es slot entries family is same e at =
+    is ∙ (ap (λ (z : List (Option Entry)). option_map_or (λ x. x.key.family) (get_or z slot None) 0) same ∙ ap (λ (z : Option Entry). option_map_or (λ x. x.key.family) z 0) at)
+
 pub family_is : (es : List (Option Entry)) (ks : List (Option Grants)) (slot : ℕ) (entries : List (Option Entry)) (family : ℕ) → family ≡ option_map_or (λ e. e.key.family) (get_or entries slot None) 0 → entries ≡ es
     → (r : Relay) → get_or (relays_in es ks) slot None ≡ Some r → family ≡ r.family
 family_is es ks slot entries family is same r at =
     let it = relay_from es ks slot r at in
-    is ∙ (ap (λ (z : List (Option Entry)). option_map_or (λ e. e.key.family) (get_or z slot None) 0) same
-    ∙ (ap (λ (z : Option Entry). option_map_or (λ e. e.key.family) z 0) it.entry ∙ ap (λ (z : Relay). z.family) it.relay))
+    family_of es slot entries family is same it.e it.entry ∙ ap (λ (z : Relay). z.family) it.relay
 
 -- ---- What is kept is changed
 

@@ -10,7 +10,7 @@ use Rattle.turn_slots.specs.declared.hashing.Secret.{Secret}
 use Rattle.turn_machine.specs.declared.grants.Permission.{Permission}
 use Rattle.turn_machine.specs.declared.grants.Channel.{Channel}
 use Rattle.turn_machine.specs.Relays.{Relay, State}
-use Rattle.turn_machine.specs.Rows.{with_permissions}
+use Rattle.turn_machine.specs.Rows.{with_permission_for, with_permissions, with_channel}
 use Rattle.turn_relays.specs.Newest.{newest_first}
 
 -- what is kept of a relayed address besides its entry in the slots
@@ -32,6 +32,13 @@ new_grants opened_by address = record {
 abbrev pub permitted : (now family : ℕ) → List Endpoint → Grants → Grants
 permitted now family peers g = record g {
   permissions = with_permissions now (filter (λ peer. peer.ip.family == family) peers) g.permissions;
+}
+
+-- with a permission for a peer's IP address, of so many seconds, and a channel that is bound to the peer
+abbrev pub bound : (lifetime now number : ℕ) → Endpoint → Grants → Grants
+bound lifetime now number peer g = record g {
+  permissions = with_permission_for lifetime now peer.ip g.permissions;
+  channels = with_channel now number peer g.channels;
 }
 
 -- what a relayed address has besides

@@ -1,12 +1,12 @@
 //! What a relayed address grants, by its slot.
 
-ghost use Rattle.std.specs.Prelude.{◌≡◌, ◌&&◌, ◌+◌, ◌<◌, ◌≤◌, ◌^◌, None, Some, false, find, length, nat_lt, option_copied, option_map, slice_index_or};
+ghost use Rattle.std.specs.Prelude.{◌≡◌, ◌&&◌, ◌+◌, ◌<◌, ◌≤◌, ◌^◌, [], ◌∷◌, None, Some, false, find, length, nat_lt, option_copied, option_map, slice_index_or};
 ghost use Rattle.std.specs.List.{list_any};
 ghost use Rattle.std.specs.Option.{option_map_or};
 ghost use Rattle.turn_machine.specs.Relays.{seconds, is_permitted, is_channel, is_channel_of};
 ghost use Rattle.turn_machine.specs.Rows.{permissions_after, with_channel, clashes};
-ghost use Rattle.turn_machine.specs.Steps.{permitting};
-ghost use Rattle.turn_relays.specs.Relayed.{at_slot, changed_slot, permitted};
+ghost use Rattle.turn_machine.specs.Steps.{permitting, binding};
+ghost use Rattle.turn_relays.specs.Relayed.{at_slot, changed_slot, permitted, bound};
 
 use crate::kept::Kept;
 use crate::relays::Relays;
@@ -50,6 +50,27 @@ fn permit_in<const P: usize, const C: usize>(
 {
     match kept {
         Some(kept) => kept.permit(now, family, peers),
+        None => {}
+    }
+}
+
+/// Inserts a permission and binds a channel in what is kept beside a slot.
+fn bind_in<const P: usize, const C: usize>(
+    kept: &mut Option<Kept<P, C>>,
+    now: u128,
+    number: u16,
+    peer: Endpoint,
+    permission_seconds: u32,
+)
+    requires time { now < 2 ^ 64 }
+    requires permissions { option_map_or
+        (λ g. length (bound permission_seconds now number peer g).permissions) kept.old 0 ≤ P }
+    requires channels { option_map_or
+        (λ g. length (bound permission_seconds now number peer g).channels) kept.old 0 ≤ C }
+    ensures { kept.new ≡ option_map (bound permission_seconds now number peer) kept.old }
+{
+    match kept {
+        Some(kept) => kept.bind(now, number, peer, permission_seconds),
         None => {}
     }
 }
@@ -148,6 +169,71 @@ impl<const P: usize, const C: usize> Relays<P, C> {
         let family = family_at(self.slots.entries(), slot);
         if slot < self.kept.len() {
             permit_in(&mut self.kept[slot], self.clock, family, peers);
+        }
+    }
+
+    /// Binds a channel of 600 seconds to a peer of the family of the relayed address in a slot, and inserts a
+    /// permission for the peer's IP address, as a ChannelBind request does (RFC 8656, sections 9 and 12.2).
+    ///
+    /// The permission lasts `permission_seconds`: 300 by section 9. It replaces one for the same IP address,
+    /// and the channel replaces one with the same number. Permissions and channels that have expired are
+    /// removed. Another binding of the number or of the peer is not looked for: [`Relays::clashes`] does.
+    ///
+    /// Changes nothing if the peer is of another family, or the slot is free or not below the capacity.
+    ///
+    /// # Requires
+    ///
+    /// There is room for both: [`Relays::lacks_permissions`] for this peer alone and
+    /// [`Relays::lacks_channel`] return `false`.
+    ///
+    /// ```
+    /// use stun_endpoints::{Endpoint, Ip};
+    /// use turn_relays::Relays;
+    /// use turn_slots::{RelayKey, UserId};
+    ///
+    /// let mut relays = Relays::<16, 8>::new(alloc, 1, [1, 2])?;
+    /// let key = RelayKey { family: 1, ..RelayKey::default() };
+    /// let (user, address) = (UserId::default(), Endpoint::default());
+    /// let hour = 3_600_000_000_000;
+    /// assert!(rt; relays.open(key, user, 7, address, hour).is_some());
+    /// let peer = Endpoint { ip: Ip { family: 1, ..Ip::default() }, port: 9 };
+    /// relays.bind(0, 0x4000, peer, 300);
+    /// relays.advance(300_000_000_000 - 1);
+    /// assert!(rt; relays.is_permitted(0, peer.ip));
+    /// relays.advance(300_000_000_000);
+    /// assert!(rt; !relays.is_permitted(0, peer.ip));
+    /// assert_eq!(rt; relays.peer_on(0, 0x4000), Some(peer));
+    /// let other = Endpoint { ip: Ip { family: 2, ..peer.ip }, port: 9 };
+    /// relays.bind(0, 0x4001, other, 300);
+    /// assert_eq!(rt; relays.peer_on(0, 0x4001), None);
+    /// relays.bind(0, 0x4000, peer, 600);
+    /// relays.advance(900_000_000_000 - 1);
+    /// assert!(rt; relays.is_permitted(0, peer.ip));
+    /// assert_eq!(rt; relays.channel_to(0, peer), Some(0x4000));
+    /// relays.advance(900_000_000_000);
+    /// assert!(rt; !relays.is_permitted(0, peer.ip));
+    /// assert_eq!(rt; relays.channel_to(0, peer), None);
+    /// ```
+    pub fn bind(&mut self, slot: usize, number: u16, peer: Endpoint, permission_seconds: u32)
+        requires permissions { option_map_or
+            (λ r. length (permissions_after self.old.clock (peer ∷ []) r)) (at_slot self.old slot) 0 ≤ P }
+        requires channels { option_map_or
+            (λ r. length (with_channel self.old.clock number peer r.channels)) (at_slot self.old slot) 0 ≤ C }
+        ensures { self.new
+            ≡ changed_slot slot (binding permission_seconds self.old.clock number peer) self.old }
+    {
+        let family = family_at(self.slots.entries(), slot);
+        if peer.ip.family != family {
+            return;
+        }
+        if slot < self.kept.len() {
+            bind_in(
+                &mut self.kept[slot],
+                self.clock,
+                number,
+                peer,
+                permission_seconds,
+            );
         }
     }
 }

@@ -1,7 +1,7 @@
 //! What is kept of a relayed address besides its entry in the slots.
 
-use crate::binding::{has_room, put};
-use crate::permitting::{copy_of, put_all};
+use crate::binding::{has_room, put as put_channel};
+use crate::permitting::{copy_of, put as put_permission, put_all};
 use arrayvec::ArrayVec;
 use std::marker::Model;
 use stun_endpoints::{Endpoint, Ip};
@@ -45,8 +45,8 @@ impl<const P: usize, const C: usize> Kept<P, C> {
     ghost use Rattle.std.specs.Prelude.{◌≡◌, ◌+◌, ◌<◌, ◌≤◌, ◌^◌, ◌==◌, length, filter, find, nat_lt, option_copied, option_map};
     ghost use Rattle.std.specs.List.{list_any};
     ghost use Rattle.turn_machine.specs.Relays.{seconds, is_permission, is_channel, is_channel_of};
-    ghost use Rattle.turn_machine.specs.Rows.{clashes, with_permissions, with_channel};
-    ghost use Rattle.turn_relays.specs.Relayed.{new_grants};
+    ghost use Rattle.turn_machine.specs.Rows.{clashes, with_permission_for, with_permissions, with_channel};
+    ghost use Rattle.turn_relays.specs.Relayed.{new_grants, bound};
 
     /// Makes one with no permissions and no channels.
     pub(crate) fn new(opened_by: u128, address: Endpoint) -> Self
@@ -148,14 +148,17 @@ impl<const P: usize, const C: usize> Kept<P, C> {
         !has_room(&self.channels, now, number, peer)
     }
 
-    /// Binds a channel.
-    pub(crate) fn bind(&mut self, now: u128, number: u16, peer: Endpoint)
+    /// Inserts a permission for the peer's IP address, which lasts so many seconds, and binds a channel to
+    /// the peer.
+    pub(crate) fn bind(&mut self, now: u128, number: u16, peer: Endpoint, permission_seconds: u32)
         requires time { now + seconds 600 < 2 ^ 128 }
-        requires room { length (with_channel now number peer self.old.channels) ≤ C }
-        ensures { self.new ≡ record self.old {
-          channels = with_channel now number peer self.old.channels;
-        } }
+        requires lasting { now + seconds permission_seconds < 2 ^ 128 }
+        requires permissions { length
+            (with_permission_for permission_seconds now peer.ip self.old.permissions) ≤ P }
+        requires channels { length (with_channel now number peer self.old.channels) ≤ C }
+        ensures { self.new ≡ bound permission_seconds now number peer self.old }
     {
-        put(&mut self.channels, now, number, peer);
+        put_permission(&mut self.permissions, now, peer.ip, permission_seconds);
+        put_channel(&mut self.channels, now, number, peer);
     }
 }

@@ -2,15 +2,15 @@
 
 ghost use Rattle.std.specs.Prelude.{◌≡◌, ◌+◌, ◌<◌, ◌≤◌, ◌^◌, ◌==◌, length, filter, true, false};
 ghost use Rattle.turn_machine.specs.Relays.{seconds};
-ghost use Rattle.turn_machine.specs.Rows.{with_permission, with_permissions, is_other_permission};
+ghost use Rattle.turn_machine.specs.Rows.{with_permission_for, with_permissions, is_other_permission};
 ghost use Rattle.turn_relays.specs.Granted.{AreDistinct};
 
 use arrayvec::ArrayVec;
 use stun_endpoints::{Endpoint, Ip};
 use turn_machine::Permission;
 
-/// How long a permission lasts, in nanoseconds.
-const LASTING: u128 = 300_000_000_000;
+/// How long a permission lasts that a CreatePermission request installs, in seconds.
+const LASTING: u32 = 300;
 
 /// Leaves the permissions of other addresses that haven't expired.
 fn clear<const P: usize>(permissions: &mut ArrayVec<Permission, P>, now: u128, ip: Ip)
@@ -19,13 +19,20 @@ fn clear<const P: usize>(permissions: &mut ArrayVec<Permission, P>, now: u128, i
     permissions.retain(|p| !(ip == p.ip) && now < p.until);
 }
 
-/// Inserts a permission in front, and removes those that have expired. Returns whether there is room.
-fn put<const P: usize>(permissions: &mut ArrayVec<Permission, P>, now: u128, ip: Ip) -> bool
-    requires { now + seconds 300 < 2 ^ 128 }
+/// Inserts a permission in front, which lasts so many seconds, and removes those that have expired. Returns
+/// whether there is room.
+pub(crate) fn put<const P: usize>(
+    permissions: &mut ArrayVec<Permission, P>,
+    now: u128,
+    ip: Ip,
+    lasting: u32,
+) -> bool
+    requires { now + seconds lasting < 2 ^ 128 }
     ensures done { result ≡ true
-        → permissions.new.items ≡ with_permission now ip permissions.old.items }
+        → permissions.new.items ≡ with_permission_for lasting now ip permissions.old.items }
     ensures fits { result ≡ true → length permissions.new.items ≤ P }
-    ensures full { result ≡ false → P < length (with_permission now ip permissions.old.items) }
+    ensures full { result ≡ false
+        → P < length (with_permission_for lasting now ip permissions.old.items) }
 {
     clear(permissions, now, ip);
     if permissions.is_full() {
@@ -35,7 +42,7 @@ fn put<const P: usize>(permissions: &mut ArrayVec<Permission, P>, now: u128, ip:
         0,
         Permission {
             ip,
-            until: now + LASTING,
+            until: now + lasting as u128 * 1_000_000_000,
         },
     );
     true
@@ -64,7 +71,7 @@ pub(crate) fn put_all<const P: usize>(
         if ip.family != family {
             continue;
         }
-        if !put(permissions, now, ip) {
+        if !put(permissions, now, ip, LASTING) {
             return false;
         }
     }

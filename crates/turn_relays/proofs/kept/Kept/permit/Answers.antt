@@ -1,16 +1,12 @@
-use Rattle.std.proofs.Common.{◌≡◌, ◌⊎◌, ◌<◌, ◌≤◌, Bool, true, false, List, filter, length, inl, inr, refl, sym, subst, arith}
+use Rattle.std.proofs.Common.{◌<◌, ◌≤◌, List, filter, length, inl, inr, sym, subst, arith}
 use Rattle.std.specs.Prelude.{◌==◌}
 use Rattle.stun_endpoints.specs.declared.endpoints.Endpoint.{Endpoint}
 use Rattle.turn_machine.specs.declared.grants.Permission.{Permission}
 use Rattle.turn_machine.specs.Rows.{with_permissions}
 use Rattle.turn_relays.specs.Relayed.{Grants}
 use Rattle.turn_relays.specs.Granted.{AreDistinct}
-use Rattle.turn_relays.proofs.DistinctLemmas.{distinct_all}
+use Rattle.turn_relays.proofs.DistinctLemmas.{either, distinct_all}
 use Rattle.turn_relays.proofs.kept.Kept.permit.Goals as goal
-
-either : (b : Bool) → (b ≡ true) ⊎ (b ≡ false)
-either true = inl refl
-either false = inr refl
 
 pub invariant_of-self : goal.invariant_of-self
 invariant_of-self g c =

@@ -1,13 +1,13 @@
-use Rattle.std.proofs.Common.{◌≡◌, ℕ, ◌≤◌, List, filter, length, Option, None, Some, get_or, set, inl, inr, refl, sym, ap, subst, ◌∙◌, arith}
+use Rattle.std.proofs.Common.{◌≡◌, ℕ, ◌≤◌, filter, length, None, get_or, refl, sym, ap, subst, ◌∙◌, arith}
 use Rattle.std.specs.Prelude.{◌==◌}
 use Rattle.std.specs.Option.{option_map, option_map_or}
 use Rattle.std.proofs.lemmas.List.{get_or_default, get_or_past}
 use Rattle.stun_endpoints.specs.declared.endpoints.Endpoint.{Endpoint}
-use Rattle.turn_machine.specs.Relays.{Relay}
 use Rattle.turn_machine.specs.Rows.{permissions_after, with_permissions}
 use Rattle.turn_machine.specs.Steps.{permitting}
-use Rattle.turn_relays.specs.Relayed.{Grants, Table, relay_of, relays_in, permitted}
-use Rattle.turn_relays.proofs.SlotsLemmas.{asked_of, grants_at, family_is, relay_from, relays_size, relays_kept, kept_none, none_or_some}
+use Rattle.turn_relays.specs.Relayed.{Table, relay_of, relays_in, permitted}
+use Rattle.turn_relays.proofs.SlotsLemmas.{asked_of, grants_at, family_is, family_of, relays_size}
+use Rattle.turn_relays.proofs.GrantingLemmas.{changed_kept}
 use Rattle.turn_relays.proofs.relays.Relays.permit.Goals as goal
 
 pub permit_in-requires : goal.permit_in-requires
@@ -30,26 +30,11 @@ permit_in-requires g c =
 
 pub returns-then-slot-len : goal.returns-then-slot-len
 returns-then-slot-len g c =
-    let kept : c.index_mut.result.now ≡ get_or c.self.inside.kept.items c.args.slot None = (c.index_mut.ensures.value ∙ get_or_default c.self.inside.kept.items c.args.slot _ None (omega (arith, c.if-slot-len.true, c.len.ensures, c.self.inside.kept.ok))) in
-    let new : c.permit_in.new.kept ≡ option_map (permitted c.self.inside.clock c.family_at-family.result c.args.peers.now) (get_or c.self.inside.kept.items c.args.slot None) =
-    c.permit_in.ensures ∙ ap (option_map (permitted c.self.inside.clock c.family_at-family.result c.args.peers.now)) kept in
-    elim (none_or_some (get_or (relays_in c.self.inside.slots.entries c.self.inside.kept.items) c.args.slot None)) [
-      | inl none ↦
-          rw (← c.self.view_is) (rw none (ap (λ (ks : List (Option Grants)). record { clock = c.self.inside.clock; next = c.self.inside.next; openings = c.self.inside.slots.round; secret = c.self.inside.slots.secret; slots = relays_in c.self.inside.slots.entries ks })
-          (kept_none c.self.inside.slots.entries c.self.inside.kept.items c.self.invariant.table.beside c.args.slot (permitted c.self.inside.clock c.family_at-family.result c.args.peers.now) c.permit_in.new.kept new none)))
-      | inr it ↦
-          let from = relay_from c.self.inside.slots.entries c.self.inside.kept.items c.args.slot it.0 it.1 in
-          let family = family_is c.self.inside.slots.entries c.self.inside.kept.items c.args.slot c.entries.result.now c.family_at-family.result c.family_at-family.ensures c.entries.ensures it.0 it.1 in
-          let one : c.permit_in.new.kept ≡ Some (permitted c.self.inside.clock c.family_at-family.result c.args.peers.now from.g) =
-          new ∙ ap (option_map (permitted c.self.inside.clock c.family_at-family.result c.args.peers.now)) from.kept in
-          let relay : relay_of from.e (permitted c.self.inside.clock c.family_at-family.result c.args.peers.now from.g) ≡ permitting c.self.inside.clock c.args.peers.now it.0 =
-          ap (λ (f : ℕ). relay_of from.e (permitted c.self.inside.clock f c.args.peers.now from.g)) (family ∙ ap (λ (r : Relay). r.family) (sym from.relay))
-          ∙ ap (permitting c.self.inside.clock c.args.peers.now) from.relay in
-          rw (← c.self.view_is) (rw it.1 (ap (λ (rs : List (Option Relay)). record { clock = c.self.inside.clock; next = c.self.inside.next; openings = c.self.inside.slots.round; secret = c.self.inside.slots.secret; slots = rs })
-          (ap (λ (k : Option Grants). relays_in c.self.inside.slots.entries (set c.self.inside.kept.items c.args.slot k)) one
-          ∙ (relays_kept c.self.inside.slots.entries c.self.inside.kept.items c.args.slot from.e (permitted c.self.inside.clock c.family_at-family.result c.args.peers.now from.g) c.self.invariant.table.size from.entry
-          ∙ ap (λ (r : Relay). set (relays_in c.self.inside.slots.entries c.self.inside.kept.items) c.args.slot (Some r)) relay))))
-    ]
+    let kept : c.index_mut.result.now ≡ get_or c.self.inside.kept.items c.args.slot None = c.index_mut.ensures.value ∙ get_or_default c.self.inside.kept.items c.args.slot _ None (omega (arith, c.if-slot-len.true, c.len.ensures, c.self.inside.kept.ok)) in
+    rw (← c.self.view_is) (changed_kept c.self.inside.clock c.self.inside.next c.self.inside.slots c.self.inside.kept.items c.self.invariant.table c.args.slot
+    (permitted c.self.inside.clock c.family_at-family.result c.args.peers.now) (permitting c.self.inside.clock c.args.peers.now)
+    (λ e x at. ap (λ (f : ℕ). relay_of e (permitted c.self.inside.clock f c.args.peers.now x)) (sym (family_of c.self.inside.slots.entries c.args.slot c.entries.result.now c.family_at-family.result c.family_at-family.ensures c.entries.ensures e at)))
+    c.permit_in.new.kept (c.permit_in.ensures ∙ ap (option_map (permitted c.self.inside.clock c.family_at-family.result c.args.peers.now)) kept))
 
 pub returns-else-slot-len : goal.returns-else-slot-len
 returns-else-slot-len g c =
