@@ -1272,7 +1272,7 @@ typedef struct {
     const stun_types_prefix *denied; /* which peers clients may not reach, and which they may: the
                                         longest prefix that contains an address decides, of equal ones
                                         denied, then allowed, then the default (DENIED_BY_DEFAULT of
-                                        crates/turn_table) */
+                                        crates/turn_peers) */
     size_t denied_count;        /* 0: none is denied but by default */
     const stun_types_prefix *allowed;
     size_t allowed_count;       /* 0: none that is denied by default is allowed */

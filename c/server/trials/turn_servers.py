@@ -17,7 +17,7 @@ from turn import ended, limited_name, turn_server
 REALM = "example.org"
 USER, PASSWORD = "alice", "wonderland"
 SECRET = "a secret of the server and of those who give credentials"
-DEFAULTS = TOP / "crates/turn_table/src/peers/defaults.rt"
+DEFAULTS = TOP / "crates/turn_peers/src/defaults.rt"
 
 
 @dataclasses.dataclass
