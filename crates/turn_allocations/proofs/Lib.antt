@@ -1,0 +1,4 @@
+mod OwnLemmas
+mod ChangingLemmas
+mod EndingLemmas
+mod ClientLemmas

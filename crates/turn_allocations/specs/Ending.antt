@@ -1,0 +1,12 @@
+-- The numbers of the sockets that a call closes.
+use Rattle.std.specs.Prelude.{◌≡◌, ℕ, ◌+◌, List}
+use Rattle.turn_machine.specs.Lists.{times}
+
+-- as many as there is room for
+pub record Numbers : Type 0 where
+  pub room : ℕ
+  pub numbers : List ℕ
+
+-- the same numbers in any order
+abbrev pub AreSame : List ℕ → List ℕ → Type 0
+AreSame some others = (n : ℕ) → times n some ≡ times n others

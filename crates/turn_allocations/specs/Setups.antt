@@ -1,0 +1,31 @@
+-- The machine's setup and rules, of what the caller sets.
+use Rattle.std.specs.Prelude.{ℕ, Bool, false, not, ◌&&◌, ◌==◌, if◌then◌else◌}
+use Rattle.stun_endpoints.specs.declared.endpoints.Ip.{Ip}
+use Rattle.stun_endpoints.specs.declared.endpoints.Endpoint.{Endpoint}
+use Rattle.turn_machine.specs.Relays.{Setup, Rules}
+use Rattle.turn_peers.specs.Policies.{is_peer}
+use Rattle.turn_allocations.specs.declared.limits.Limits.{Limits}
+use Rattle.turn_allocations.specs.declared.families.Families.{Families}
+
+abbrev pub supports : Families Bool → (family : ℕ) → Bool
+supports families family =
+    if family == 1 then families.ipv4 else (family == 2) && families.ipv6
+
+-- the limits of a server, and the most permissions and channels of each relayed address
+abbrev pub setup_of : Limits → (permissions channels : ℕ) → Setup
+setup_of limits permissions channels = record {
+  most_relays = limits.relays;
+  most_of_user = limits.of_user;
+  most_permissions = permissions;
+  most_channels = channels;
+  greatest_lifetime = limits.greatest_lifetime;
+  last_channel = if limits.old_channels then 0x7FFF else 0x4FFF;
+  has_family = supports limits.families;
+  supports_dont_fragment = limits.dont_fragment;
+  passes_icmp = limits.icmp;
+  channel_permits = limits.channel_permits;
+}
+
+-- The rules of a policy: what it says of IP addresses and of ports. None of Teredo or 6to4 is a peer
+abbrev pub rules_of : (Ip → Bool) → (Endpoint → Bool) → Rules
+rules_of address port = record { allows_ip = is_peer address; allows_port = port }

@@ -1,0 +1,135 @@
+//! Refresh requests (RFC 8656, section 8.2).
+
+ghost use Rattle.std.specs.Prelude.{◌≡◌, ℕ, ◌+◌, ◌<◌, ◌≤◌, ◌&&◌, false, length};
+ghost use Rattle.stun_endpoints.specs.declared.endpoints.FiveTuple.{FiveTuple};
+ghost use Rattle.turn_slots.specs.Deadlines.{never};
+ghost use Rattle.turn_slots.specs.Users.{user_number};
+ghost use Rattle.turn_machine.specs.Relays.{Setup, Rules, is_owned};
+ghost use Rattle.turn_machine.specs.Events.{nothing, refresh};
+ghost use Rattle.turn_machine.specs.Rows.{has_of_another};
+ghost use Rattle.turn_machine.specs.Steps.{changed, closing, is_wanted, lasting};
+ghost use Rattle.turn_machine.specs.Times.{refreshed_for};
+ghost use Rattle.turn_relays.specs.Relayed.{state_of};
+ghost use Rattle.turn_allocations.specs.Clients.{AreSound, Becomes, Owns};
+ghost use Rattle.turn_allocations.specs.Serving.{IsDone, Serves};
+
+use crate::answer::{Answer, Refusal};
+use crate::client::{Client, Place};
+use crate::ended::Ended;
+use crate::owning::owner_fault;
+use crate::sweeping::end_at;
+use turn_relays::Relays;
+use turn_slots::UserId;
+
+/// Nanoseconds of a second.
+const SECOND: u128 = 1_000_000_000;
+
+/// The lifetime that is granted, in seconds.
+fn refreshed_for(wanted: Option<u32>, greatest: u32) -> u32
+    ensures { result ≡ refreshed_for wanted greatest }
+{
+    match wanted {
+        Some(0) => 0,
+        Some(wanted) => wanted.min(greatest).max(600),
+        None => 600,
+    }
+}
+
+/// The place of a family, if a request is for it.
+fn if_wanted(place: Option<Place>, of: u8, family: Option<u8>) -> Option<Place> {
+    match family {
+        Some(family) if family != of => None,
+        _ => place,
+    }
+}
+
+/// Ends the relayed address in a place, if there is one.
+fn end_in<const P: usize, const C: usize>(
+    relays: &mut Relays<P, C>,
+    ended: &mut Ended,
+    place: Option<Place>,
+) {
+    if let Some(place) = place {
+        end_at(relays, ended, place.slot);
+    }
+}
+
+/// Ends a client's relayed addresses of the families that a request is for.
+fn end_wanted<const P: usize, const C: usize>(
+    relays: &mut Relays<P, C>,
+    ended: &mut Ended,
+    client: &Client,
+    family: Option<u8>,
+)
+    requires room { length ended.old.numbers + length (state_of relays.old).relays ≤ ended.old.room }
+    ensures done { (tuple : FiveTuple) (user : ℕ) → Owns relays.old tuple client.now
+        → has_of_another tuple user (state_of relays.old) ≡ false
+        → IsDone (closing (λ a. is_owned tuple user a && is_wanted family a) nothing (state_of relays.old))
+        relays.old relays.new ended.old ended.new }
+    ensures sound { AreSound relays.old → AreSound relays.new }
+{
+    end_in(relays, ended, if_wanted(client.ipv4, 1, family));
+    end_in(relays, ended, if_wanted(client.ipv6, 2, family));
+}
+
+/// Gives the relayed address in a place another end, if there is one.
+fn set_end_in<const P: usize, const C: usize>(
+    relays: &mut Relays<P, C>,
+    place: Option<Place>,
+    until: u128,
+)
+    requires { until < never }
+{
+    if let Some(place) = place {
+        relays.set_end(place.slot, until);
+    }
+}
+
+/// Gives a client's relayed addresses of the families that a request is for another end.
+fn set_ends<const P: usize, const C: usize>(
+    relays: &mut Relays<P, C>,
+    client: &Client,
+    family: Option<u8>,
+    until: u128,
+)
+    requires { until < never }
+    ensures { (tuple : FiveTuple) (user : ℕ) → Owns relays.old tuple client.now
+        → has_of_another tuple user (state_of relays.old) ≡ false
+        → Becomes relays.old relays.new (changed tuple user (lasting family until) (state_of relays.old)) }
+{
+    set_end_in(relays, if_wanted(client.ipv4, 1, family), until);
+    set_end_in(relays, if_wanted(client.ipv6, 2, family), until);
+}
+
+/// Answers a Refresh request of a client with these relayed addresses.
+pub(crate) fn refresh<const P: usize, const C: usize>(
+    relays: &mut Relays<P, C>,
+    ended: &mut Ended,
+    client: &Client,
+    user: UserId,
+    family: Option<u8>,
+    lifetime: Option<u32>,
+    greatest_lifetime: u32,
+) -> Answer
+    requires room { length ended.old.numbers + length (state_of relays.old).relays ≤ ended.old.room }
+    requires sound { AreSound relays.old }
+    ensures serves { (setup : Setup) (rules : Rules) (tuple : FiveTuple)
+        → setup.greatest_lifetime ≡ greatest_lifetime → Owns relays.old tuple client.now
+        → Serves setup rules tuple (user_number user) (refresh family lifetime)
+        relays.old relays.new ended.old ended.new result }
+    ensures sound { AreSound relays.new }
+{
+    if let Some(refusal) = owner_fault(client, user) {
+        return Answer::Refused(refusal);
+    }
+    if !client.has_wanted(family) {
+        return Answer::Refused(Refusal::PeerAddressFamilyMismatch);
+    }
+    let lifetime = refreshed_for(lifetime, greatest_lifetime);
+    if lifetime == 0 {
+        end_wanted(relays, ended, client, family);
+    } else {
+        set_ends(relays, client, family, relays.clock() + SECOND * lifetime as u128);
+    }
+    Answer::Refreshed(lifetime)
+}
