@@ -15,7 +15,7 @@ use Rattle.turn_machine.specs.Times.{at, granted_for, refreshed_for}
 use Rattle.turn_machine.specs.Opening.{opens, given_to, missing_to}
 use Rattle.turn_machine.specs.Rows.{is_other_permission, with_permissions, peers_of, permissions_after, is_other_channel, fault}
 use Rattle.turn_machine.specs.Data.{allows}
-use Rattle.turn_machine.specs.Steps.{Step, changed, without, closing, is_wanted, lasting, permitting, binding, keeping, refreshes, fulfils, is_again, answers_again, serves, happens, step}
+use Rattle.turn_machine.specs.Steps.{Step, changed, without, closing, is_wanted, lasting, permitting, binding, keeping, refreshes, fulfils, serves, happens, step}
 use Rattle.turn_machine.specs.Runs.{Timed, Happening, run, happening, history}
 use Rattle.turn_machine.specs.Warrants.{is_refresh, refreshed_in, refreshed_to, is_ended, end_of, names, Renews}
 use Rattle.turn_machine.proofs.AddressesLemmas.{tuple_same, tuple_is_itself, ip_same, ip_is_itself}
