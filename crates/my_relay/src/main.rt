@@ -14,8 +14,8 @@ use std::net::SocketAddr;
 use stun_authentication::{NonceMaker, Policy, SecurityFeatures};
 use stun_types::attribute::Realm;
 use stun_types::message::{IntegrityKey, LongTermCredentials};
+use turn_peers::Peers;
 use turn_server::Access;
-use turn_table::peers::Peers;
 use walk::{PASSWORD, SERVER, USER, Walk};
 
 /// The lines of the whole exchange.

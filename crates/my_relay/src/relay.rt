@@ -7,9 +7,9 @@ use std::net::SocketAddr;
 use stun_authentication::Logins;
 use stun_endpoints::{Endpoint, FiveTuple};
 use stun_types::message::{LongTermCredentials, StunWriteError, TransactionId};
+use turn_peers::Peers;
 use turn_server::{Access, Action, Opened, Ready, Site, Sockets, TurnServer};
 use turn_table::Limits;
-use turn_table::peers::Peers;
 
 /// How many bytes a buffer has before the data of a peer: room for the longest head.
 pub const HEAD: usize = 48;

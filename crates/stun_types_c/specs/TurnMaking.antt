@@ -11,8 +11,8 @@ use Rattle.stun_authentication.specs.declared.cookie.SecurityFeatures.{SecurityF
 use Rattle.stun_authentication.specs.declared.policy.Policy.{Policy}
 use Rattle.stun_authentication.specs.Nonces.{minting, minting_of}
 use Rattle.turn_table.specs.declared.limits.Limits.{Limits}
-use Rattle.turn_table.specs.declared.peers.networks.Prefix.{Prefix}
-use Rattle.turn_table.specs.Networks.{prefix_of}
+use Rattle.turn_peers.specs.declared.networks.Prefix.{Prefix}
+use Rattle.turn_peers.specs.Networks.{prefix_of}
 use Rattle.turn_table.specs.Runs.{begun}
 use Rattle.turn_server.specs.declared.access.Access.{Access}
 use Rattle.turn_server.specs.Access.{software_in}

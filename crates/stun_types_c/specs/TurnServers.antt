@@ -5,7 +5,7 @@ use Rattle.stun_endpoints.specs.declared.endpoints.Endpoint.{Endpoint}
 use Rattle.stun_endpoints.specs.Conversions.{is_address}
 use Rattle.turn_table.specs.Allocations.{Setup}
 use Rattle.turn_table.specs.Outputs.{setup_of}
-use Rattle.turn_table.specs.Peers.{allows_address, is_listening}
+use Rattle.turn_peers.specs.Peers.{allows_address, is_listening}
 use Rattle.stun_types_c.specs.declared.turn_core.PeerRules.{PeerRules}
 use Rattle.stun_types_c.specs.declared.turn_core.TurnCore.{TurnCore}
 

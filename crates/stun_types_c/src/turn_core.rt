@@ -1,8 +1,8 @@
 //! What the handle of a TURN server holds.
 
 use std::net::SocketAddr;
+use turn_peers::{Peers, Prefix};
 use turn_server::{Access, TurnServer};
-use turn_table::peers::{Peers, Prefix};
 
 /// Which peers a server relays to.
 #[derive(Drop)]
@@ -28,7 +28,7 @@ pub struct TurnCore {
 
 impl PeerRules {
     ghost use Rattle.std.specs.Prelude.{◌≡◌};
-    ghost use Rattle.turn_table.specs.Peers.{is_peer_allowed, is_port_allowed};
+    ghost use Rattle.turn_peers.specs.Peers.{is_peer_allowed, is_port_allowed};
     ghost use Rattle.stun_types_c.specs.TurnServers.{allows_peer, allows_port};
 
     /// The rules, as the table asks for them.

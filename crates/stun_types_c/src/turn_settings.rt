@@ -32,9 +32,9 @@ use std::alloc::{AllocError, Global};
 use std::net::SocketAddr;
 use stun_authentication::{NonceMaker, Policy, SecurityFeatures};
 use stun_types::attribute::Software;
+use turn_peers::Prefix;
 use turn_server::{Access, TurnServer};
 use turn_table::Limits;
-use turn_table::peers::Prefix;
 
 /// What a TURN server is made by, as C sets it.
 #[repr(C)]

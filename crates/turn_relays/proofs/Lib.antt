@@ -2,3 +2,4 @@ mod NewestLemmas
 mod SlotsLemmas
 mod DistinctLemmas
 mod FollowingLemmas
+mod ListingLemmas

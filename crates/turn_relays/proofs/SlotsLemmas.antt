@@ -201,6 +201,24 @@ module _ (number : ℕ) (es : List (Option Entry)) (ks : List (Option Grants)) w
   number_only found only slot r at is = let it = relay_from es ks slot r at in
       only slot it.e it.entry (eqb-true it.e.number number (subst (λ (x : Relay). is_at number x ≡ true) (sym it.relay) is))
 
+module _ (user : UserId) (low : user.low < 2 ^ 128) (es : List (Option Entry)) (ks : List (Option Grants))
+    (users : (i : ℕ) (e : Entry) → get_or es i None ≡ Some e → e.user.low < 2 ^ 128) where
+  pub user_some : ((i : ℕ) → is_some (get_or es i None) ≡ is_some (get_or ks i None)) → (found : Option ℕ)
+      → IfSome found (λ slot. (e : Entry) × (get_or es slot None ≡ Some e) × (is_user user e.user ≡ true))
+      → IfSome found (λ slot. (r : Relay) × (get_or (relays_in es ks) slot None ≡ Some r) × (is_users (user_number user) r ≡ true))
+  user_some beside found is =
+      if_some found (λ slot. (e : Entry) × (get_or es slot None ≡ Some e) × (is_user user e.user ≡ true))
+      (λ slot. (r : Relay) × (get_or (relays_in es ks) slot None ≡ Some r) × (is_users (user_number user) r ≡ true))
+      (λ slot it. let there = relay_there es ks beside slot it.0 it.1 in (relay_of it.0 there.0, there.2, for_user user it.0.user low (users slot it.0 it.1) ∙ it.2)) is
+
+  pub user_none : (found : Option ℕ) → IfNone found ((slot : ℕ) (e : Entry) → get_or es slot None ≡ Some e → is_user user e.user ≡ false)
+      → IfNone found ((slot : ℕ) (r : Relay) → get_or (relays_in es ks) slot None ≡ Some r → is_users (user_number user) r ≡ false)
+  user_none found is =
+      if_none found ((slot : ℕ) (e : Entry) → get_or es slot None ≡ Some e → is_user user e.user ≡ false)
+      ((slot : ℕ) (r : Relay) → get_or (relays_in es ks) slot None ≡ Some r → is_users (user_number user) r ≡ false)
+      (λ none slot r at. let it = relay_from es ks slot r at in
+      subst (λ (x : Relay). is_users (user_number user) x ≡ false) it.relay (for_user user it.e.user low (users slot it.e it.entry) ∙ none slot it.e it.entry)) is
+
 -- ---- A new table, and an end
 
 pub relays_none : (n : ℕ) → relays_in (replicate n None) (replicate n None) ≡ replicate n None
@@ -223,6 +241,7 @@ new_table n low s kept entries round kept_is = record {
   size = ap length kept_is ∙ (length-replicate n None ∙ sym (ap length entries ∙ length-replicate n None));
   beside = λ i. rw (entries, kept_is) (none_same n i);
   fresh = omega arith;
+  near = omega arith;
   below = λ i e at. absurd (none_in n i e (subst (λ (es : List (Option Entry)). get_or es i None ≡ Some e) entries at));
   users = λ i e at. absurd (none_in n i e (subst (λ (es : List (Option Entry)). get_or es i None ≡ Some e) entries at));
 }
@@ -256,6 +275,7 @@ ended_table next s ks t slot s2 is = subst (λ (z : State). IsTable next z (set 
   size = length-set ks slot None ∙ (t.size ∙ sym (length-set s.entries slot None));
   beside = beside_set s.entries ks t.size t.beside slot None None refl;
   fresh = t.fresh;
+  near = t.near;
   below = λ i e at. elim (set_from s.entries slot None i e at) [
     | inl new ↦ absurd cc
     | inr old ↦ t.below i e old
@@ -288,6 +308,7 @@ changed_table next s ks t slot e f at number user s2 is = subst (λ (z : State).
   size = t.size ∙ sym (length-set s.entries slot (Some f));
   beside = λ i. some_kept s.entries slot e f at i ∙ t.beside i;
   fresh = t.fresh;
+  near = t.near;
   below = λ i x at_i. elim (set_from s.entries slot (Some f) i x at_i) [
     | inl new ↦ let low = t.below slot e at in let same = ap (λ (z : Entry). z.number) (some_is f x new) in omega (arith, low, same, number)
     | inr old ↦ t.below i x old
@@ -324,6 +345,7 @@ opened_table next s ks t slot e g low number user s2 is = subst (λ (z : State).
   size = length-set ks slot (Some g) ∙ (t.size ∙ sym (length-set s.entries slot (Some e)));
   beside = beside_set s.entries ks t.size t.beside slot (Some e) (Some g) refl;
   fresh = let few = t.few in omega (arith, few, low, number);
+  near = omega (arith, number);
   below = λ i x at. elim (set_from s.entries slot (Some e) i x at) [
     | inl new ↦ let same = ap (λ (z : Entry). z.number) (some_is e x new) in omega (arith, same)
     | inr old ↦ let before = t.below i x old in let fresh = t.fresh in omega (arith, before, fresh, number)

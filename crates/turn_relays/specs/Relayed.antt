@@ -1,11 +1,11 @@
 -- The relayed addresses in slots, and the state of the machine that they are (RFC 8656, sections 6, 9 and 12).
-use Rattle.std.specs.Prelude.{◌≡◌, ◌⊎◌, ℕ, ◌+◌, ◌<◌, ◌≤◌, List, [], ◌∷◌, filter, ◌==◌, Option, None, Some, length, slice_index_or, slice_set}
+use Rattle.std.specs.Prelude.{◌≡◌, ◌⊎◌, ℕ, ◌+◌, ◌*◌, ◌<◌, ◌≤◌, List, [], ◌∷◌, filter, ◌==◌, Option, None, Some, length, slice_index_or, slice_set}
 use Rattle.std.specs.Option.{option_map_or}
 use Rattle.stun_endpoints.specs.declared.endpoints.Endpoint.{Endpoint}
 use Rattle.turn_slots.specs.declared.relay_key.RelayKey.{RelayKey}
 use Rattle.turn_slots.specs.declared.slots.Entry.{Entry}
 use Rattle.turn_slots.specs.Users.{user_number}
-use Rattle.turn_slots.specs.Numbers.{rounds}
+use Rattle.turn_slots.specs.Numbers.{rounds, places}
 use Rattle.turn_slots.specs.declared.hashing.Secret.{Secret}
 use Rattle.turn_machine.specs.declared.grants.Permission.{Permission}
 use Rattle.turn_machine.specs.declared.grants.Channel.{Channel}
@@ -136,3 +136,8 @@ pub record Opens (slot : ℕ) (r : Relay) (old new : Table) : Type 0 where
     openings = old.openings + 1;
     slots = slice_set old.slots slot (Some r);
   }
+
+-- The next number, by how many were opened: so numbers last for 2^40 openings
+pub record NumbersLast (t : Table) : Type 0 where
+  pub fresh : t.next ≤ t.openings * places
+  pub near : t.openings * places ≤ t.next + places

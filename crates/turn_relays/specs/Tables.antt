@@ -1,5 +1,5 @@
 -- The entries of the slots and what is kept besides agree.
-use Rattle.std.specs.Prelude.{◌≡◌, ℕ, ◌*◌, ◌<◌, ◌≤◌, ◌^◌, List, Option, None, Some, is_some, length, slice_index_or}
+use Rattle.std.specs.Prelude.{◌≡◌, ℕ, ◌+◌, ◌*◌, ◌<◌, ◌≤◌, ◌^◌, List, Option, None, Some, is_some, length, slice_index_or}
 use Rattle.turn_slots.specs.declared.slots.Entry.{Entry}
 use Rattle.turn_slots.specs.Slots.{State}
 use Rattle.turn_slots.specs.Numbers.{places}
@@ -10,11 +10,12 @@ abbrev pub IsUser : Entry → Type 0
 IsUser e = e.user.low < 2 ^ 128
 
 -- a slot has something kept besides if and only if it has an entry; `next` is above all numbers, and at most the
--- next number
+-- next number, which is near
 pub record IsTable (next : ℕ) (slots : State) (kept : List (Option Grants)) : Type 0 where
   pub few : length slots.entries < places
   pub size : length kept ≡ length slots.entries
   pub beside : (i : ℕ) → is_some (slice_index_or slots.entries i None) ≡ is_some (slice_index_or kept i None)
   pub fresh : next ≤ slots.round * places
+  pub near : slots.round * places ≤ next + places
   pub below : (i : ℕ) (e : Entry) → slice_index_or slots.entries i None ≡ Some e → e.number < next
   pub users : (i : ℕ) (e : Entry) → slice_index_or slots.entries i None ≡ Some e → IsUser e

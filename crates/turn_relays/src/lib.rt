@@ -14,5 +14,5 @@ mod laws;
 mod permitting;
 mod relays;
 
-pub use laws::list_follows_slots;
+pub use laws::{list_follows_slots, lists_have_slots};
 pub use relays::Relays;

@@ -5,7 +5,7 @@ ghost use Rattle.turn_slots.specs.Deadlines.{never};
 ghost use Rattle.turn_slots.specs.Hashes.{secret_of};
 ghost use Rattle.turn_slots.specs.Users.{user_number};
 ghost use Rattle.turn_machine.specs.Relays.{Relay, is_for, is_users, is_at};
-ghost use Rattle.turn_relays.specs.Relayed.{relay_of, new_grants, Table, state_of, at_slot, Holds, Each, with_slot, opened, Opens, IsClosed};
+ghost use Rattle.turn_relays.specs.Relayed.{relay_of, new_grants, Table, state_of, at_slot, Holds, Each, with_slot, opened, Opens, IsClosed, NumbersLast};
 
 use crate::kept::Kept;
 use std::alloc::{AllocError, Global};
@@ -158,9 +158,19 @@ impl<const P: usize, const C: usize> Relays<P, C> {
 
     /// Returns the clock: the latest moment passed to [`Relays::advance`], or 0.
     pub fn clock(&self) -> u128
-        ensures { result ≡ self.now.clock }
+        ensures clock { result ≡ self.now.clock }
+        ensures early { result < 2 ^ 64 }
     {
         self.clock
+    }
+
+    /// Returns a number that is above those of all relayed addresses opened so far, and at most that of the
+    /// next, which is near: numbers last for 2^40 openings.
+    pub fn next_number(&self) -> u64
+        ensures next { result ≡ self.now.next }
+        ensures last { NumbersLast self.now }
+    {
+        self.next
     }
 
     /// Advances the clock to `now`, or leaves it if `now` is before it: a clock that steps back counts as
@@ -222,6 +232,16 @@ impl<const P: usize, const C: usize> Relays<P, C> {
             → is_at number r ≡ true → result ≡ Some slot }
     {
         self.slots.find_by_number(number)
+    }
+
+    /// Returns the slot of a relayed address of the user, or `None` if the user has none.
+    pub fn find_by_user(&self, user: UserId) -> Option<usize>
+        ensures some { IfSome result (λ slot. (r : Relay) × Holds self.now slot r
+            × (is_users (user_number user) r ≡ true)) }
+        ensures none { IfNone result (Each self.now (λ r. is_users (user_number user) r ≡ false)) }
+    {
+        are_halves(user);
+        self.slots.find_by_user(user)
     }
 
     /// Opens a relayed address with no permissions and no channels, and returns its number, which is above

@@ -6,7 +6,7 @@ use Rattle.stun_authentication.specs.Identities.{shows}
 use Rattle.turn_attrs.specs.Turn.{LIFETIME, REQUESTED_ADDRESS_FAMILY, EVEN_PORT, REQUESTED_TRANSPORT, RESERVATION_TOKEN, ADDITIONAL_ADDRESS_FAMILY}
 use Rattle.stun_endpoints.specs.declared.endpoints.Ip.{Ip}
 use Rattle.stun_endpoints.specs.declared.endpoints.Endpoint.{Endpoint}
-use Rattle.turn_table.specs.Tunnels.{is_tunnelled}
+use Rattle.turn_peers.specs.Tunnels.{is_tunnelled}
 use Rattle.turn_server.specs.declared.sockets.Ready.{Ready}
 use Rattle.turn_server.specs.declared.sockets.Sockets.{Sockets}
 use Rattle.turn_server.specs.declared.allocate.Options.{Options}

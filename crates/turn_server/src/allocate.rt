@@ -21,7 +21,7 @@ use turn_attrs::attribute_types::{
 use turn_attrs::error_codes::{
     ADDRESS_FAMILY_NOT_SUPPORTED, FORBIDDEN, INSUFFICIENT_CAPACITY, UNSUPPORTED_TRANSPORT_PROTOCOL,
 };
-use turn_table::is_tunnelled;
+use turn_peers::is_tunnelled;
 
 /// The number of UDP as a protocol.
 const UDP: u8 = 17;

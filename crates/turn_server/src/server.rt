@@ -45,7 +45,8 @@ use stun_authentication::LongTermKeys;
 use stun_endpoints::{Endpoint, FiveTuple};
 use stun_types::message::{Message, TransactionId};
 use turn_attrs::methods::{ALLOCATE, CREATE_PERMISSION};
-use turn_table::{Limits, PeerPolicy, Reply, Request, ToPeer, TurnTable, UserId};
+use turn_peers::PeerPolicy;
+use turn_table::{Limits, Reply, Request, ToPeer, TurnTable, UserId};
 
 /// Data that goes to a peer, or is dropped.
 fn relayed(to: Option<ToPeer>, span: Span) -> Action
@@ -87,7 +88,7 @@ fn relayed(to: Option<ToPeer>, span: Span) -> Action
 /// use stun_types::prelude::*;
 /// use turn_attrs::{RequestedTransport, XorPeerAddress, methods};
 /// use turn_server::{Access, Action, Ready, Site, Sockets, TurnServer};
-/// use turn_table::peers::Peers;
+/// use turn_peers::Peers;
 /// use turn_table::Limits;
 ///
 /// // A client's request with an attribute, which answers a challenge.

@@ -1,4 +1,3 @@
-mod LongestLemmas
 mod ListsLemmas
 mod Backed
 mod ServingLemmas

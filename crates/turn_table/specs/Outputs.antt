@@ -1,20 +1,15 @@
 -- What the calls of the table take and return, in the terms of its events.
-use Rattle.std.specs.Prelude.{ℕ, Bool, not, ◌&&◌, List, Option, None, Some, if◌then◌else◌}
+use Rattle.std.specs.Prelude.{ℕ, Bool, List, Option, None, Some, if◌then◌else◌}
 use Rattle.stun_endpoints.specs.declared.endpoints.Ip.{Ip}
 use Rattle.stun_endpoints.specs.declared.endpoints.Endpoint.{Endpoint}
 use Rattle.turn_table.specs.Allocations.{Setup}
-use Rattle.turn_table.specs.Tunnels.{is_tunnelled}
+use Rattle.turn_peers.specs.Policies.{is_peer}
 use Rattle.turn_table.specs.Events.{Answer, allocated, refreshed, done, refused, Output, to_peer, to_client, to_client_on, nothing}
 use Rattle.turn_table.specs.declared.limits.Limits.{Limits}
 use Rattle.turn_table.specs.declared.reply.ToPeer.{ToPeer}
 use Rattle.turn_table.specs.declared.reply.ToClient.{ToClient}
 use Rattle.turn_table.specs.declared.reply.Reply.{Reply}
 use Rattle.turn_table.specs.declared.reply.Reply.TheVariants.{Allocated, Refreshed, Done, Refused}
-
--- whether an IP address may be a peer's: the policy allows it, and it is none of Teredo or 6to4, which a
--- server must not accept (section 21.4)
-abbrev pub is_peer : (Ip → Bool) → Ip → Bool
-is_peer address ip = not (is_tunnelled ip) && address ip
 
 -- the setting of a table: its limits, the room for permissions and channels, and the policy
 abbrev pub setup_of : Limits → (permissions channels : ℕ) → (Ip → Bool) → (Endpoint → Bool) → Setup

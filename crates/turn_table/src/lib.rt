@@ -7,7 +7,6 @@ mod hashing;
 mod index;
 mod laws;
 mod limits;
-pub mod peers;
 mod permissions;
 mod permitting;
 mod places;
@@ -17,16 +16,14 @@ mod serving;
 mod slot;
 mod slots;
 mod table;
-mod tunnels;
 mod user;
 
 pub use laws::{
     clients_are_apart, relaying_is_warranted, strangers_get_little, table_is_bounded,
     what_is_permitted_works,
 };
-pub use limits::{Limits, PeerPolicy};
+pub use limits::Limits;
 pub use permissions::{Channel, Permission};
 pub use reply::{Reply, Request, ToClient, ToPeer};
 pub use table::TurnTable;
-pub use tunnels::is_tunnelled;
 pub use user::UserId;

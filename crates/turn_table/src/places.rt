@@ -8,13 +8,14 @@ ghost use Rattle.turn_table.specs.Slots.{in_slot, users_at, if_of, if_at, if_end
 ghost use Rattle.turn_table.specs.Outputs.{setup_of, answer_of};
 ghost use Rattle.turn_table.specs.Requests.{asked, IsServed};
 
-use crate::limits::{Limits, PeerPolicy};
+use crate::limits::Limits;
 use crate::reply::{Reply, Request};
 use crate::slot::Slot;
 use crate::user::UserId;
 use std::alloc::{AllocError, Global};
 use std::collections::VecDeque;
 use stun_endpoints::FiveTuple;
+use turn_peers::PeerPolicy;
 
 /// Slots that are all free, and their places.
 pub(crate) fn free_slots<const P: usize, const C: usize>(

@@ -6,25 +6,26 @@ ghost use Rattle.std.specs.Option.{option_or, option_map_or};
 ghost use Rattle.stun_endpoints.specs.declared.endpoints.Ip.{Ip};
 ghost use Rattle.stun_endpoints.specs.declared.endpoints.Endpoint.{Endpoint};
 ghost use Rattle.stun_endpoints.specs.Endpoints.{is_endpoint};
+ghost use Rattle.turn_peers.specs.Policies.{is_peer};
 ghost use Rattle.turn_table.specs.Users.{user_number};
 ghost use Rattle.turn_table.specs.Allocations.{seconds, channel_by_number, channel_by_peer};
 ghost use Rattle.turn_table.specs.declared.limits.Limits.{Limits};
 ghost use Rattle.turn_table.specs.Rows.{owner_fault, refresh_fault, family_fault, policy_fault, port_fault, number_fault, binding_fault, permit_fault, bind_fault, with_permissions};
 ghost use Rattle.turn_table.specs.Steps.{refreshed_for, lasting, permitting, binding};
-ghost use Rattle.turn_table.specs.Outputs.{setup_of, answer_of, is_peer};
+ghost use Rattle.turn_table.specs.Outputs.{setup_of, answer_of};
 ghost use Rattle.turn_table.specs.Requests.{asked, fault_of, fault_for, changed_by, success_of, answer_by, kept_by};
 ghost use Rattle.turn_table.specs.Events.{done, refreshed};
 
 use crate::binding::{has_room, put};
-use crate::limits::{Limits, PeerPolicy};
+use crate::limits::Limits;
 use crate::permissions::Permission;
 use crate::permitting::{copy_of, put_all};
 use crate::reply::{Reply, Request};
 use crate::slot::Slot;
-use crate::tunnels::is_tunnelled;
 use crate::user::UserId;
 use arrayvec::ArrayVec;
 use stun_endpoints::Endpoint;
+use turn_peers::{PeerPolicy, is_tunnelled};
 
 /// How many nanoseconds a second has.
 pub(crate) const SECOND: u128 = 1_000_000_000;

@@ -11,13 +11,14 @@ ghost use Rattle.turn_table.specs.Rows.{is_users};
 ghost use Rattle.turn_table.specs.Slots.{fresh};
 ghost use Rattle.turn_table.specs.Outputs.{setup_of, sending, receiving};
 
-use crate::limits::{Limits, PeerPolicy};
+use crate::limits::Limits;
 use crate::permissions::{Channel, Permission};
 use crate::reply::{ToClient, ToPeer};
 use crate::user::UserId;
 use arrayvec::ArrayVec;
 use std::marker::Model;
 use stun_endpoints::{Endpoint, FiveTuple, Ip};
+use turn_peers::PeerPolicy;
 
 /// An allocation, with its permissions and channels inline.
 #[derive(Drop)]

@@ -13,7 +13,7 @@ ghost use Rattle.turn_table.specs.Events.{answers};
 
 use crate::hashing::Seeded;
 use crate::index::{make_room, name};
-use crate::limits::{Limits, PeerPolicy};
+use crate::limits::Limits;
 use crate::places::{client_at, count_users, ended_at, free_slots, relay_at, serve_in};
 use crate::reply::{Reply, Request};
 use crate::serving::SECOND;
@@ -23,6 +23,7 @@ use std::alloc::{AllocError, Global};
 use std::collections::{HashMap, VecDeque};
 use std::marker::Model;
 use stun_endpoints::{Endpoint, FiveTuple};
+use turn_peers::PeerPolicy;
 
 /// How many slots there may be: a socket's number has its slot in its low 32 bits.
 const PLACES: u64 = 4_294_967_296;

@@ -15,7 +15,7 @@ ghost use Rattle.turn_table.specs.Allocates.{Allocates};
 ghost use Rattle.turn_table.specs.Polls.{Polls};
 
 use crate::allocating::{allocated_for, unmet_code};
-use crate::limits::{Limits, PeerPolicy};
+use crate::limits::Limits;
 use crate::polling::close_ended;
 use crate::reply::{Reply, Request, ToClient, ToPeer};
 use crate::slots::Slots;
@@ -23,6 +23,7 @@ use crate::user::UserId;
 use std::alloc::{AllocError, Global};
 use std::marker::Model;
 use stun_endpoints::{Endpoint, FiveTuple};
+use turn_peers::PeerPolicy;
 
 /// The allocations that a TURN server has (RFC 8656), each with up to `P` permissions and `C` channels.
 ///

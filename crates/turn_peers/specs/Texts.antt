@@ -4,10 +4,10 @@ use Rattle.std.specs.Prelude.{◌≡◌, ℕ, ◌^◌, ◌<◌, ◌==◌, Bool, 
 use Rattle.std.specs.List.{position_or_len, before_first, after_first}
 use Rattle.std.specs.Net.Grammar.{IsIpText, IsNumber}
 use Rattle.std.specs.declared.net.ip_addr.IpAddr.{IpAddr}
-use Rattle.turn_table.specs.declared.peers.networks.PrefixError.{PrefixError}
-use Rattle.turn_table.specs.declared.peers.networks.PrefixError.TheVariants.{NoSlash, InvalidAddress, InvalidLength}
-use Rattle.turn_table.specs.declared.peers.networks.Prefix.{Prefix}
-use Rattle.turn_table.specs.Networks.{prefix_of}
+use Rattle.turn_peers.specs.declared.networks.PrefixError.{PrefixError}
+use Rattle.turn_peers.specs.declared.networks.PrefixError.TheVariants.{NoSlash, InvalidAddress, InvalidLength}
+use Rattle.turn_peers.specs.declared.networks.Prefix.{Prefix}
+use Rattle.turn_peers.specs.Networks.{prefix_of}
 
 abbrev pub is_slash : ℕ → Bool
 is_slash byte = byte == 47

@@ -1,6 +1,6 @@
 //! The prefixes that a TURN server denies unless its caller allows them.
 
-use super::Prefix;
+use crate::networks::Prefix;
 use stun_endpoints::Ip;
 
 /// A prefix of an IPv4 address.

@@ -1,7 +1,7 @@
 //! Prefixes of IP addresses (RFC 4632, section 3.1; RFC 4291, section 2.3).
 
 ghost use Rattle.std.specs.Prelude.{◌≡◌, ◌≤◌, ◌/◌, ◌%◌, ◌^◌, ◌==◌, not};
-ghost use Rattle.turn_table.specs.Networks.{width};
+ghost use Rattle.turn_peers.specs.Networks.{width};
 
 use std::net::IpAddr;
 use stun_endpoints::Ip;
@@ -69,7 +69,7 @@ pub struct Prefix {
 
 impl Prefix {
     ghost use Rattle.std.specs.Prelude.{◌≡◌};
-    ghost use Rattle.turn_table.specs.Networks.{contains, prefix_of};
+    ghost use Rattle.turn_peers.specs.Networks.{contains, prefix_of};
 
     /// Returns the prefix of the first `length` bits of an address.
     ///
@@ -82,7 +82,7 @@ impl Prefix {
     ///
     /// ```
     /// use std::net::IpAddr;
-    /// use turn_table::peers::{Prefix, PrefixError};
+    /// use turn_peers::{Prefix, PrefixError};
     ///
     /// let network: IpAddr = "172.16.0.0".parse()?;
     /// assert!(rt; Prefix::new(network, 12).is_ok());

@@ -6,9 +6,9 @@ use Rattle.std.proofs.lemmas.Bool.{le-leb}
 use Rattle.std.proofs.lemmas.Bool.Decides.{nat_tests}
 use Rattle.std.proofs.lemmas.List.Folds.{list_all_at, list_any_at}
 use Rattle.stun_endpoints.specs.declared.endpoints.Ip.{Ip}
-use Rattle.turn_table.specs.declared.peers.networks.Prefix.{Prefix}
-use Rattle.turn_table.specs.Networks.{contains}
-use Rattle.turn_table.specs.Peers.{is_allowed_by, is_open}
+use Rattle.turn_peers.specs.declared.networks.Prefix.{Prefix}
+use Rattle.turn_peers.specs.Networks.{contains}
+use Rattle.turn_peers.specs.Peers.{is_allowed_by, is_open}
 
 -- a prefix that is too short, or doesn't contain the address, allows nothing
 none_here : (b : Bool) (least n : ℕ) (others : Bool) → (b ≡ true → n < least) → others ≡ false → ((nat_le least n && b) || others) ≡ false

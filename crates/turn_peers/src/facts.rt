@@ -4,8 +4,8 @@
 ghost use Rattle.std.specs.Prelude.{◌≡◌, true, false, [], ◌∷◌, not};
 ghost use Rattle.std.specs.List.{list_all};
 ghost use Rattle.stun_endpoints.specs.Conversions.{ip_of};
-ghost use Rattle.turn_table.specs.Peers.{allows_address};
-ghost use Rattle.turn_table.specs.Registry.{ipv4, ipv6, prefix4, prefix6, open_ipv4, open_ipv6, closed_ipv4, closed_ipv6};
+ghost use Rattle.turn_peers.specs.Peers.{allows_address};
+ghost use Rattle.turn_peers.specs.Registry.{ipv4, ipv6, prefix4, prefix6, open_ipv4, open_ipv6, closed_ipv4, closed_ipv6};
 
 /// With no rules of its own a server relays to the addresses beside the blocks of the special-purpose
 /// address registry (RFC 6890), and not to the first and the last of each that is denied.

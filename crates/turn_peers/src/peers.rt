@@ -1,20 +1,8 @@
-//! Which peers a TURN server relays to (RFC 8656, section 21).
-//!
-//! A server that relays to any address lets its clients reach what only its own host or network
-//! should reach. [`Peers`] is what it allows: every address but those in [`DENIED_BY_DEFAULT`], with
-//! prefixes of the caller's choice, and the addresses on which it listens itself.
+//! What a server relays to by its caller's prefixes.
 
-mod defaults;
-mod facts;
-mod laws;
-mod networks;
-mod parse;
-
-use crate::limits::PeerPolicy;
-pub use defaults::DENIED_BY_DEFAULT;
-pub use facts::{longer_prefixes_overrule, registry_is_held};
-pub use laws::longest_prefix_decides;
-pub use networks::{Prefix, PrefixError};
+use crate::defaults::DENIED_BY_DEFAULT;
+use crate::networks::Prefix;
+use crate::policy::PeerPolicy;
 use std::net::{IpAddr, SocketAddr};
 use stun_endpoints::{Endpoint, Ip};
 
@@ -31,7 +19,7 @@ use stun_endpoints::{Endpoint, Ip};
 ///
 /// ```
 /// use std::net::SocketAddr;
-/// use turn_table::peers::{Peers, Prefix};
+/// use turn_peers::{Peers, Prefix};
 ///
 /// let office: Prefix = "10.1.0.0/16".parse()?;
 /// let own: SocketAddr = "198.51.100.7:3478".parse()?;
@@ -58,7 +46,7 @@ pub struct Peers<'a> {
 impl Peers<'_> {
     ghost use Rattle.std.specs.Prelude.{◌≡◌};
     ghost use Rattle.stun_endpoints.specs.Conversions.{ip_of};
-    ghost use Rattle.turn_table.specs.Peers.{allows, allows_ip, is_listening};
+    ghost use Rattle.turn_peers.specs.Peers.{allows, allows_ip, is_listening};
 
     /// Whether the server relays to this peer: `allows_ip` of its IP address, and the server doesn't
     /// listen there. Flow information and scope ID don't count.
@@ -69,7 +57,7 @@ impl Peers<'_> {
     /// # Examples
     ///
     /// ```
-    /// use turn_table::peers::Peers;
+    /// use turn_peers::Peers;
     ///
     /// let peers = Peers { denied: &[], allowed: &[], listening: &["192.0.2.1:3478".parse()?] };
     /// assert!(rt; peers.allows("192.0.2.1:49152".parse()?));
@@ -88,7 +76,7 @@ impl Peers<'_> {
     /// # Examples
     ///
     /// ```
-    /// use turn_table::peers::Peers;
+    /// use turn_peers::Peers;
     ///
     /// let peers = Peers { denied: &["203.0.113.0/24".parse()?], allowed: &[], listening: &[] };
     /// assert!(rt; peers.allows_ip("192.0.2.1".parse()?));
@@ -119,16 +107,15 @@ impl Peers<'_> {
     }
 }
 
-/// The rules for a [`TurnTable`](crate::TurnTable). [`Peers::allows`] is `allows_address` and
+/// The rules as a policy. [`Peers::allows`] is `allows_address` and
 /// `allows_port` of the same address: no port is denied but those in `listening`. An [`Ip`] that
 /// [is no address](Ip::is_address) is denied.
 ///
 /// # Examples
 ///
 /// ```
-/// use turn_table::peers::Peers;
 /// use stun_endpoints::{Endpoint, Ip};
-/// use turn_table::PeerPolicy;
+/// use turn_peers::{PeerPolicy, Peers};
 ///
 /// let own = Ip { family: 1, number: 0xC633_6407 };
 /// let peers = Peers { denied: &[], allowed: &[], listening: &["198.51.100.7:3478".parse()?] };
@@ -139,7 +126,7 @@ impl Peers<'_> {
 /// assert!(rt; !peers.allows_address(Ip { family: 1, number: 0xA9FE_A9FE }));
 /// ```
 impl PeerPolicy for Peers<'_> {
-    ghost use Rattle.turn_table.specs.Peers.{is_peer_allowed, is_port_allowed};
+    ghost use Rattle.turn_peers.specs.Peers.{is_peer_allowed, is_port_allowed};
 
     ghost allows_address = { is_peer_allowed };
 
@@ -155,7 +142,7 @@ impl PeerPolicy for Peers<'_> {
 }
 
 ghost use Rattle.std.specs.Prelude.{◌≡◌, ◌+◌, ◌≤◌};
-ghost use Rattle.turn_table.specs.Peers.{is_allowed_by, is_open};
+ghost use Rattle.turn_peers.specs.Peers.{is_allowed_by, is_open};
 
 /// Whether one of these prefixes contains the address, and has at least this length.
 fn is_allowed_by(allowed: &[Prefix], least: u16, ip: Ip) -> bool

@@ -4,7 +4,7 @@
 use Rattle.std.specs.Prelude.{ℕ, List, [], ◌∷◌}
 use Rattle.std.specs.declared.net.ip_addr.IpAddr.{IpAddr}
 use Rattle.std.specs.declared.net.ip_addr.IpAddr.TheVariants.{V4, V6}
-use Rattle.turn_table.specs.declared.peers.networks.Prefix.{Prefix}
+use Rattle.turn_peers.specs.declared.networks.Prefix.{Prefix}
 use Rattle.stun_endpoints.specs.Conversions.{ip_of}
 
 abbrev pub ipv4 : (a b c d : ℕ) → IpAddr

@@ -1,10 +1,10 @@
 use Rattle.std.proofs.Common.{◌≡◌, ◌+◌, ◌≤◌, ◌<◌, true, arith}
-use Rattle.turn_table.specs.declared.peers.networks.Prefix.{Prefix}
-use Rattle.turn_table.specs.declared.peers.defaults.TheConstants.{DENIED_BY_DEFAULT}
-use Rattle.turn_table.specs.Networks.{contains}
-use Rattle.turn_table.specs.Peers.{is_open}
-use Rattle.turn_table.proofs.LongestLemmas.{closed_by, open_by, open_outside, weaker, first_closed, second_closed, both_open}
-use Rattle.turn_table.proofs.peers.laws.longest_prefix_decides.Goals as goal
+use Rattle.turn_peers.specs.declared.networks.Prefix.{Prefix}
+use Rattle.turn_peers.specs.declared.defaults.TheConstants.{DENIED_BY_DEFAULT}
+use Rattle.turn_peers.specs.Networks.{contains}
+use Rattle.turn_peers.specs.Peers.{is_open}
+use Rattle.turn_peers.proofs.LongestLemmas.{closed_by, open_by, open_outside, weaker, first_closed, second_closed, both_open}
+use Rattle.turn_peers.proofs.laws.longest_prefix_decides.Goals as goal
 
 pub returns-clause-denied : goal.returns-clause-denied
 returns-clause-denied c denied allowed a p among inside shorter =

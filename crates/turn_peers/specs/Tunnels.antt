@@ -1,4 +1,4 @@
--- Clients that come by a tunnel to IPv6 (RFC 8656, section 21.4).
+-- Addresses of tunnels to IPv6 (RFC 8656, section 21.4).
 use Rattle.std.specs.Prelude.{◌/◌, ◌^◌, Bool, ◌&&◌, ◌||◌, ◌==◌}
 use Rattle.stun_endpoints.specs.declared.endpoints.Ip.{Ip}
 

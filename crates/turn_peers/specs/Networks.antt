@@ -3,9 +3,9 @@ use Rattle.std.specs.Prelude.{ℕ, ◌-◌, ◌/◌, ◌%◌, ◌^◌, Bool, ◌
 use Rattle.std.specs.declared.net.ip_addr.IpAddr.{IpAddr}
 use Rattle.stun_endpoints.specs.declared.endpoints.Ip.{Ip}
 use Rattle.stun_endpoints.specs.Conversions.{ip_of}
-use Rattle.turn_table.specs.declared.peers.networks.PrefixError.{PrefixError}
-use Rattle.turn_table.specs.declared.peers.networks.PrefixError.TheVariants.{TooLong, BitsAfterPrefix}
-use Rattle.turn_table.specs.declared.peers.networks.Prefix.{Prefix}
+use Rattle.turn_peers.specs.declared.networks.PrefixError.{PrefixError}
+use Rattle.turn_peers.specs.declared.networks.PrefixError.TheVariants.{TooLong, BitsAfterPrefix}
+use Rattle.turn_peers.specs.declared.networks.Prefix.{Prefix}
 
 -- how many bits an address of a family has
 abbrev pub width : (family : ℕ) → ℕ

@@ -7,10 +7,10 @@ use Rattle.stun_endpoints.specs.declared.endpoints.Ip.{Ip}
 use Rattle.stun_endpoints.specs.declared.endpoints.Endpoint.{Endpoint}
 use Rattle.stun_endpoints.specs.Endpoints.{is_endpoint}
 use Rattle.stun_endpoints.specs.Conversions.{is_address, ip_of, endpoint_of}
-use Rattle.turn_table.specs.declared.peers.defaults.TheConstants.{DENIED_BY_DEFAULT}
-use Rattle.turn_table.specs.declared.peers.networks.Prefix.{Prefix}
-use Rattle.turn_table.specs.declared.peers.Peers.{Peers}
-use Rattle.turn_table.specs.Networks.{contains}
+use Rattle.turn_peers.specs.declared.defaults.TheConstants.{DENIED_BY_DEFAULT}
+use Rattle.turn_peers.specs.declared.networks.Prefix.{Prefix}
+use Rattle.turn_peers.specs.declared.peers.Peers.{Peers}
+use Rattle.turn_peers.specs.Networks.{contains}
 
 -- whether a prefix of at least this length allows an address
 abbrev pub is_allowed_by : List Prefix → ℕ → Ip → Bool

@@ -4,11 +4,11 @@
 ghost use Rattle.std.specs.Prelude.{◌≡◌, ◌≤◌, ◌<◌, true, false, List};
 ghost use Rattle.std.specs.List.{AllByRecursion, IsAmong};
 ghost use Rattle.stun_endpoints.specs.declared.endpoints.Ip.{Ip};
-ghost use Rattle.turn_table.specs.declared.peers.networks.Prefix.{Prefix};
-ghost use Rattle.turn_table.specs.Networks.{contains};
-ghost use Rattle.turn_table.specs.Peers.{allows_address};
+ghost use Rattle.turn_peers.specs.declared.networks.Prefix.{Prefix};
+ghost use Rattle.turn_peers.specs.Networks.{contains};
+ghost use Rattle.turn_peers.specs.Peers.{allows_address};
 
-use super::DENIED_BY_DEFAULT;
+use crate::defaults::DENIED_BY_DEFAULT;
 
 /// The longest prefix that contains an address decides. The address is denied if a prefix of `denied`
 /// contains it, and none of `allowed` that does is longer; or if one of [`DENIED_BY_DEFAULT`]

@@ -3,9 +3,9 @@
 ghost use Rattle.std.specs.Prelude.{◌≡◌, ◌==◌, ℕ, slice_index, MatchResult};
 ghost use Rattle.std.specs.declared.net.ip_addr.IpAddr.{IpAddr};
 ghost use Rattle.std.specs.Net.Grammar.{IsIpText};
-ghost use Rattle.turn_table.specs.Texts.{IsLength, Spells, IsFault};
+ghost use Rattle.turn_peers.specs.Texts.{IsLength, Spells, IsFault};
 
-use super::{Prefix, PrefixError};
+use crate::networks::{Prefix, PrefixError};
 use std::net::IpAddr;
 use std::str::FromStr;
 
@@ -62,7 +62,7 @@ fn read_parts(text: &str) -> Result<(IpAddr, u8), PrefixError>
 /// # Examples
 ///
 /// ```
-/// use turn_table::peers::{Prefix, PrefixError};
+/// use turn_peers::{Prefix, PrefixError};
 ///
 /// let prefix: Prefix = "2001:db8::/32".parse()?;
 /// assert!(rt; prefix.length() == 32);
@@ -72,7 +72,7 @@ fn read_parts(text: &str) -> Result<(IpAddr, u8), PrefixError>
 /// assert_eq!(rt; "10.0.0.1/8".parse::<Prefix>(), Err(PrefixError::BitsAfterPrefix));
 /// ```
 impl FromStr for Prefix {
-    ghost use Rattle.turn_table.specs.Texts.{GivesPrefix};
+    ghost use Rattle.turn_peers.specs.Texts.{GivesPrefix};
 
     type Err = PrefixError;
 

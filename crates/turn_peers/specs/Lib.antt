@@ -1,0 +1,6 @@
+pub mod Networks
+pub mod Peers
+pub mod Registry
+pub mod Texts
+pub mod Tunnels
+pub mod Policies

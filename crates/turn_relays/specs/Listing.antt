@@ -1,0 +1,31 @@
+-- The machine's list of relayed addresses has exactly what is in the slots, the newest first.
+use Rattle.std.specs.Prelude.{◌≡◌, ◌⊎◌, ℕ, ◌<◌, ◌≤◌, Bool, true, List, [], ◌∷◌, filter, Option, None, Some, length, slice_index_or}
+use Rattle.std.specs.List.{AllByRecursion}
+use Rattle.turn_machine.specs.Relays.{Relay}
+use Rattle.turn_relays.specs.Following.{listed, EachOf}
+
+-- this slot has this relayed address
+abbrev pub HasAt : List (Option Relay) → (slot : ℕ) → Relay → Type 0
+HasAt slots slot r = slice_index_or slots slot None ≡ Some r
+
+-- If all in the slots pass a test, all in the list do, and the converse. If one alone passes a test, the
+-- list of those that do is that one; if two do, the newer comes first. The list is no longer than
+-- the slots are many, and as long if no slot is free
+pub record ListHasSlots : Type 0 where
+  pub all : (slots : List (Option Relay)) (test : Relay → Bool)
+      → EachOf slots (λ _ r. test r ≡ true) → AllByRecursion (λ r. test r ≡ true) (listed slots)
+  pub each : (slots : List (Option Relay)) (test : Relay → Bool)
+      → AllByRecursion (λ r. test r ≡ true) (listed slots) → EachOf slots (λ _ r. test r ≡ true)
+  pub one : (slots : List (Option Relay)) (test : Relay → Bool) (slot : ℕ) (r : Relay)
+      → HasAt slots slot r → test r ≡ true
+      → EachOf slots (λ at other. test other ≡ true → at ≡ slot)
+      → filter test (listed slots) ≡ r ∷ []
+  pub two : (slots : List (Option Relay)) (test : Relay → Bool) (slot other : ℕ) (r s : Relay)
+      → HasAt slots slot r → HasAt slots other s → test r ≡ true → test s ≡ true
+      → s.number < r.number
+      → EachOf slots (λ at a. test a ≡ true → (at ≡ slot) ⊎ (at ≡ other))
+      → filter test (listed slots) ≡ r ∷ s ∷ []
+  pub within : (slots : List (Option Relay)) → length (listed slots) ≤ length slots
+  pub full : (slots : List (Option Relay))
+      → ((slot : ℕ) → slot < length slots → (r : Relay) × HasAt slots slot r)
+      → length (listed slots) ≡ length slots
