@@ -61,6 +61,7 @@ pub record IsBacked (setup : Setup) (earlier : List Happening) (a : Relay) : Typ
 
 -- ---- It stays so
 
+-- also after another happening that is no CreatePermission request for its IP address
 pub installed_on : (setup : Setup) (h : Happening) (since : List Happening) (tuple : FiveTuple) (user family : ℕ) (p : Permission) → ¬ (Renews tuple user p.ip h) → IsInstalled setup since tuple user family p → IsInstalled setup (h ∷ since) tuple user family p
 installed_on setup h since tuple user family p never is =
     let by : AreInstalling setup tuple user p.ip p.until (h ∷ since) = elim is.by [

@@ -2,8 +2,8 @@
 use Rattle.std.proofs.Common.{◌≡◌, ℕ, ◌+◌, ◌≤◌, inl, inr, ◌⊎◌, Bool, true, false, not, cond, List, [], ◌∷◌, map, filter, Option, None, Some, refl, sym, ap, ◌∙◌, subst, eqb-true, eq-eqb, le_of_eq}
 use Rattle.std.specs.List.{AllByRecursion, list_any}
 use Rattle.std.specs.Option.{option_map_or}
-use Rattle.std.specs.Prelude.{◌==◌, ◌&&◌, ◌||◌, nat_lt, max}
-use Rattle.std.proofs.lemmas.Bool.{cond_both, cond-true, cond-false, and_parts, and_from, or_left, or_right, false≢true}
+use Rattle.std.specs.Prelude.{◌==◌, ◌&&◌, nat_lt, max}
+use Rattle.std.proofs.lemmas.Bool.{cond_both, cond-true, cond-false, and_parts, and_from, or_from, or_left, or_right, false≢true}
 use Rattle.stun_endpoints.specs.declared.endpoints.Ip.{Ip}
 use Rattle.stun_endpoints.specs.declared.endpoints.Endpoint.{Endpoint}
 use Rattle.stun_endpoints.specs.declared.endpoints.FiveTuple.{FiveTuple}
@@ -15,7 +15,7 @@ use Rattle.turn_machine.specs.Times.{at, granted_for, refreshed_for}
 use Rattle.turn_machine.specs.Opening.{opens, given_to, missing_to}
 use Rattle.turn_machine.specs.Rows.{is_other_permission, with_permissions, peers_of, permissions_after, is_other_channel, fault}
 use Rattle.turn_machine.specs.Data.{allows}
-use Rattle.turn_machine.specs.Steps.{Step, changed, without, closing, is_wanted, lasting, permitting, binding, keeping, refreshes, fulfils, is_again, answers_again, serves, happens, step}
+use Rattle.turn_machine.specs.Steps.{Step, changed, without, closing, is_wanted, lasting, permitting, binding, keeping, refreshes, fulfils, serves, happens, step}
 use Rattle.turn_machine.specs.Runs.{Timed, Happening, run, happening, history}
 use Rattle.turn_machine.specs.Warrants.{is_refresh, refreshed_in, refreshed_to, is_ended, end_of, names, Renews}
 use Rattle.turn_machine.proofs.AddressesLemmas.{tuple_same, tuple_is_itself, ip_same, ip_is_itself}
@@ -63,13 +63,11 @@ abbrev IsRenewed : Setup → Happening → List Happening → FiveTuple → (use
 IsRenewed setup h since tuple user family peers p =
     IsInstalled setup (h ∷ since) tuple user family p ⊎ (IsInstalled setup since tuple user family p × (list_any (λ (q : Endpoint). is_ip p.ip q.ip) peers ≡ false))
 
-both_none : (x y : Bool) → x ≡ false → y ≡ false → (x || y) ≡ false
-both_none false y is none = none
-both_none true y is none = absurd cc
-
+-- the test is symmetric
 apart_ip : (ip new : Ip) → is_ip new ip ≡ false → is_ip ip new ≡ false
 apart_ip ip new apart = not_true (is_ip ip new) (λ same. false≢true (sym apart ∙ subst (λ (i : Ip). is_ip i ip ≡ true) (ip_same ip new same) (ip_is_itself ip)))
 
+-- each permission after a CreatePermission request is renewed, or is for none of its peers
 renewed_all : (setup : Setup) (h : Happening) (since : List Happening) (tuple : FiveTuple) (user family now : ℕ) (request : Request) (peers : List Endpoint) (ps : List Permission)
     → h.moment ≡ now → h.event ≡ asks tuple user request → h.output ≡ answers tuple done
     → AllByRecursion (λ peer. (names peer.ip request ≡ true) × (h.rules.allows_ip peer.ip ≡ true) × (peer.ip.family ≡ family)) peers
@@ -83,7 +81,7 @@ renewed_all setup h since tuple user family now request (peer ∷ peers) ps mome
         | inl new ↦ inl new
         | inr old ↦ inr (
           old.0,
-          both_none (is_ip p.ip peer.ip) (list_any (λ (q : Endpoint). is_ip p.ip q.ip) peers) (apart_ip p.ip peer.ip (not_yes (is_ip peer.ip p.ip) (and_parts (not (is_ip peer.ip p.ip)) (nat_lt now p.until) other).0)) old.1,
+          or_from (is_ip p.ip peer.ip) (list_any (λ (q : Endpoint). is_ip p.ip q.ip) peers) (apart_ip p.ip peer.ip (not_yes (is_ip peer.ip p.ip) (and_parts (not (is_ip peer.ip p.ip)) (nat_lt now p.until) other).0)) old.1,
         )
       ]) (with_permissions now peers ps) (renewed_all setup h since tuple user family now request peers ps moment asked reply fit.1 each),
 )

@@ -208,6 +208,7 @@ or_second : (p q : Bool) → p ≡ false → (p || q) ≡ true → q ≡ true
 or_second true q e any = absurd (false≢true (sym e))
 or_second false q e any = any
 
+-- the IP address has this one permission
 pub exactly_for : (lifetime now m : ℕ) (ip new : Ip) (ps : List Permission) → is_ip ip new ≡ true → list_any (is_permission m ip) (with_permission_for lifetime now new ps) ≡ nat_lt m (now + seconds lifetime)
 exactly_for lifetime now m ip new ps same =
     by_head (is_ip ip new) (nat_lt m (now + seconds lifetime)) (list_any (is_permission m ip) (filter (is_other_permission now new) ps))

@@ -112,6 +112,7 @@ pub only_older : (P : Happening → Type 0) (h : Happening) (since : List Happen
 only_older P h since never (inl p) = absurd (never p)
 only_older P h since never (inr some) = some
 
+-- if no channel is bound now, it was before
 pub only_longer : (tuple : FiveTuple) (user : ℕ) (ip : Ip) (n : ℕ) (h : Happening) (since : List Happening) → (BindsTo tuple user ip n h → ⊥) → IsLong tuple user ip n (h ∷ since) → IsLong tuple user ip n since
 only_longer tuple user ip n h since never (inl b) = absurd (never b)
 only_longer tuple user ip n h since never (inr more) = more.1
@@ -170,6 +171,7 @@ by_ip true true rest e f = refl
 by_ip true false rest e f = absurd (false≢true e)
 by_ip false lasts rest e f = f refl
 
+-- what is permitted stays so beside a permission that lasts
 pub one_stays : (lifetime c n : ℕ) (ip new : Ip) (ps : List Permission) → c ≤ n → n < c + seconds lifetime → list_any (is_permission n ip) ps ≡ true → list_any (is_permission n ip) (with_permission_for lifetime c new ps) ≡ true
 one_stays lifetime c n ip new ps le soon any =
     by_ip (is_ip ip new) (nat_lt n (c + seconds lifetime)) (list_any (is_permission n ip) (filter (is_other_permission c new) ps)) (lt-ltb n (c + seconds lifetime) soon) (λ differ. others_left c n ip new ps le differ ∙ any)
@@ -178,7 +180,7 @@ pub all_stay : (c n : ℕ) (ip : Ip) (peers : List Endpoint) (ps : List Permissi
 all_stay c n ip [] ps le soon any = any
 all_stay c n ip (peer ∷ peers) ps le soon any = one_stays 300 c n ip peer.ip (with_permissions c peers ps) le soon (all_stay c n ip peers ps le soon any)
 
--- of other peers
+-- what is permitted for none of these peers is as it was
 pub all_left : (c n : ℕ) (ip : Ip) (peers : List Endpoint) (ps : List Permission) → c ≤ n → list_any (λ p. is_ip ip p.ip) peers ≡ false → list_any (is_permission n ip) (with_permissions c peers ps) ≡ list_any (is_permission n ip) ps
 all_left c n ip [] ps le none = refl
 all_left c n ip (peer ∷ peers) ps le none =

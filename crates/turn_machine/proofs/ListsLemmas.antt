@@ -87,6 +87,7 @@ some_both P Q R f [] each some = absurd some
 some_both P Q R f (x ∷ xs) each (inl is) = inl (f x each.0 is)
 some_both P Q R f (x ∷ xs) each (inr more) = inr (some_both P Q R f xs each.1 more)
 
+-- each is so, and one was so with all since like that: that one is both
 pub since_both : {X : Type 0} (P Q R S : X → Type 0) → ((x : X) → P x → Q x → R x) → (xs : List X) → AllByRecursion P xs → SomeSince Q S xs → SomeSince R S xs
 since_both P Q R S f [] each some = absurd some
 since_both P Q R S f (x ∷ xs) each (inl is) = inl (f x each.0 is)

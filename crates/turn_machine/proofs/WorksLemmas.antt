@@ -181,6 +181,7 @@ no_clash : (of any : Bool) → (of && any) ≡ false → of ≡ true → any ≡
 no_clash true any none is = none
 no_clash false any none is = absurd (false≢true is)
 
+-- it is at least the 300 seconds of other permissions
 least_300 : (setup : Setup) → 300 ≤ bound_for setup
 least_300 setup = cond_both setup.channel_permits 600 300 (λ (n : ℕ). 300 ≤ n) (λ _. omega arith) (λ _. omega arith)
 
