@@ -48,7 +48,7 @@ some_of (Some x) is = (x, refl)
 pub kept_beside : (e : Entry) (o : Option Entry) (k : Option Grants) → is_some o ≡ is_some k → o ≡ Some e → (g : Grants) × (k ≡ Some g)
 kept_beside e o k beside is = some_of k (sym beside ∙ ap is_some is)
 
-joined_is : (e : Entry) (g : Grants) (o : Option Entry) (k : Option Grants) → o ≡ Some e → k ≡ Some g → joined o k ≡ Some (relay_of e g)
+pub joined_is : (e : Entry) (g : Grants) (o : Option Entry) (k : Option Grants) → o ≡ Some e → k ≡ Some g → joined o k ≡ Some (relay_of e g)
 joined_is e g o k is too = ap (λ (z : Option Entry). joined z k) is ∙ ap (λ (z : Option Grants). joined (Some e) z) too
 
 -- a slot with an entry has a relayed address

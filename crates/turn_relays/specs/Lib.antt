@@ -3,3 +3,4 @@ pub mod Relayed
 pub mod Tables
 pub mod Granted
 pub mod Following
+pub mod Shown

@@ -14,7 +14,7 @@ use stun_endpoints::{Endpoint, Ip};
 use turn_slots::Entry;
 
 /// What is kept beside a slot.
-fn kept_at<const P: usize, const C: usize>(
+pub(crate) fn kept_at<const P: usize, const C: usize>(
     kept: &[Option<Kept<P, C>>],
     slot: usize,
 ) -> Option<&Kept<P, C>>

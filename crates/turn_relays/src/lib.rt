@@ -12,7 +12,9 @@ mod granting;
 mod kept;
 mod laws;
 mod permitting;
+mod relayed;
 mod relays;
 
 pub use laws::list_follows_slots;
+pub use relayed::{Relayed, users_are_numbers};
 pub use relays::Relays;
