@@ -3,3 +3,4 @@ mod SlotsLemmas
 mod DistinctLemmas
 mod FollowingLemmas
 mod GrantingLemmas
+mod FactsLemmas

@@ -4,3 +4,4 @@ pub mod Tables
 pub mod Granted
 pub mod Following
 pub mod Shown
+pub mod Facts

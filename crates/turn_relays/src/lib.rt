@@ -8,6 +8,7 @@
 #![tactic(auto)]
 
 mod binding;
+mod facts;
 mod granting;
 mod kept;
 mod laws;

@@ -1,0 +1,15 @@
+-- What is so of the relayed addresses at all times.
+use Rattle.std.specs.Prelude.{◌≡◌, ℕ, true}
+use Rattle.turn_machine.specs.Relays.{Relay, is_for}
+use Rattle.turn_relays.specs.Relayed.{Table, Holds}
+
+-- no two relayed addresses have the same number
+abbrev pub NumbersAreDistinct : Table → Type 0
+NumbersAreDistinct t =
+    (slot other : ℕ) (r s : Relay) → Holds t slot r → Holds t other s → r.number ≡ s.number → slot ≡ other
+
+-- no client has two relayed addresses of one family
+abbrev pub KeysAreDistinct : Table → Type 0
+KeysAreDistinct t =
+    (slot other : ℕ) (r s : Relay) → Holds t slot r → Holds t other s
+    → is_for r.tuple r.family s ≡ true → slot ≡ other
