@@ -19,7 +19,11 @@ use Rattle.turn_relays.specs.Tables.{IsTable}
 use Rattle.turn_machine.specs.Relays.{Relay, is_for, is_users, is_at}
 use Rattle.turn_relays.specs.Newest.{newest_first}
 use Rattle.turn_relays.proofs.NewestLemmas.{passes, newest_count, newest_length}
-use Rattle.turn_relays.specs.Relayed.{Grants, grants_of, relay_of, joined, relays_in, number_of}
+use Rattle.turn_relays.specs.Relayed.{Grants, Table, grants_of, relay_of, joined, relays_in, number_of}
+
+-- the table that the fields are
+abbrev pub table_of : (clock next : ℕ) → State → List (Option Grants) → Table
+table_of clock next s ks = record { clock = clock; next = next; openings = s.round; secret = s.secret; slots = relays_in s.entries ks }
 
 -- ---- A slot
 
@@ -67,7 +71,7 @@ pub record From (o : Option Entry) (k : Option Grants) (r : Relay) : Type 0 wher
   pub kept : k ≡ Some g
   pub relay : relay_of e g ≡ r
 
-none_isnt : {X : Type 0} (x : X) → None ≡ Some x → ⊥
+pub none_isnt : {X : Type 0} (x : X) → None ≡ Some x → ⊥
 none_isnt x is = cc
 
 some_is : {X : Type 0} (x y : X) → Some x ≡ Some y → x ≡ y
@@ -154,11 +158,11 @@ relays_length es ks beside =
 
 -- ---- Look-ups
 
-if_some : {X : Type 0} (o : Option X) (P Q : X → Type 0) → ((x : X) → P x → Q x) → IfSome o P → IfSome o Q
+pub if_some : {X : Type 0} (o : Option X) (P Q : X → Type 0) → ((x : X) → P x → Q x) → IfSome o P → IfSome o Q
 if_some None P Q f is = is
 if_some (Some x) P Q f is = f x is
 
-if_none : {X : Type 0} (o : Option X) (A B : Type 0) → (A → B) → IfNone o A → IfNone o B
+pub if_none : {X : Type 0} (o : Option X) (A B : Type 0) → (A → B) → IfNone o A → IfNone o B
 if_none None A B f is = f is
 if_none (Some x) A B f is = is
 
