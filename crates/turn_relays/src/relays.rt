@@ -172,6 +172,20 @@ impl<const P: usize, const C: usize> Relays<P, C> {
         self.clock = self.clock.max(now as u128);
     }
 
+    /// Returns the most relayed addresses at a time: each slot is below this.
+    ///
+    /// ```
+    /// use turn_relays::Relays;
+    ///
+    /// let relays = Relays::<16, 8>::new(alloc, 100, [1, 2])?;
+    /// assert_eq!(rt; (relays.capacity(), relays.len()), (100, 0));
+    /// ```
+    pub fn capacity(&self) -> usize
+        ensures { result ≡ length self.now.slots }
+    {
+        self.slots.capacity()
+    }
+
     /// Returns the number of relayed addresses.
     pub fn len(&self) -> usize
         ensures { result ≡ length (state_of self.now).relays }
