@@ -12,10 +12,7 @@ use Rattle.turn_machine.specs.Rows.{with_permission_for, with_permissions, with_
 use Rattle.turn_machine.specs.Steps.{binding}
 use Rattle.turn_relays.specs.Relayed.{Grants, Table, Holds, at_slot, changed_slot, relay_of, relays_in, bound}
 use Rattle.turn_relays.specs.Tables.{IsTable}
-use Rattle.turn_relays.proofs.SlotsLemmas.{relay_from, relays_kept, kept_none, none_or_some}
-
-abbrev pub table_of : (clock next : ℕ) → State → List (Option Grants) → Table
-table_of clock next s ks = record { clock = clock; next = next; openings = s.round; secret = s.secret; slots = relays_in s.entries ks }
+use Rattle.turn_relays.proofs.SlotsLemmas.{relay_from, relays_kept, kept_none, none_or_some, table_of}
 
 -- a change that leaves the relayed address of a slot changes nothing
 pub changed_same : (slot : ℕ) (change : Relay → Relay) (t : Table) → ((r : Relay) → Holds t slot r → change r ≡ r) → t ≡ changed_slot slot change t

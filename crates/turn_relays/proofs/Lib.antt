@@ -4,3 +4,4 @@ mod DistinctLemmas
 mod FollowingLemmas
 mod ListingLemmas
 mod GrantingLemmas
+mod FactsLemmas

@@ -1,8 +1,8 @@
 -- Relayed addresses: the entries of the slots with what is kept besides.
 use Rattle.std.proofs.Common.{◌≡◌, ℕ, ◌+◌, ◌*◌, ◌<◌, ◌^◌, zero, suc, Bool, true, false, cond, List, [], ◌∷◌, length, Option, None, Some, get_or, set, replicate, refl, sym, ap, ◌∙◌, subst, eq-eqb, eqb-true, ne_eqb, arith, inl, inr}
-use Rattle.std.specs.Prelude.{◌⊎◌, ◌==◌, ◌&&◌, is_some, count_by}
+use Rattle.std.specs.Prelude.{◌⊎◌, ◌==◌, ◌&&◌, ◌%◌, is_some, count_by}
 use Rattle.std.specs.Option.{IfSome, IfNone, option_map, option_map_or}
-use Rattle.std.proofs.lemmas.Bool.{and_parts}
+use Rattle.std.proofs.lemmas.Bool.{and_parts, false≢true}
 use Rattle.std.proofs.lemmas.List.Sums.{sum_by-cons}
 use Rattle.stun_endpoints.specs.Endpoints.{is_tuple}
 use Rattle.turn_slots.specs.declared.relay_key.RelayKey.{RelayKey}
@@ -13,11 +13,17 @@ use Rattle.turn_slots.specs.Users.{is_user, user_number}
 use Rattle.std.proofs.lemmas.List.{length-replicate, length-set}
 use Rattle.turn_slots.specs.Slots.{State, without, is_live, is_users as has_user}
 use Rattle.turn_slots.specs.Numbers.{places}
+use Rattle.turn_slots.specs.Deadlines.{never}
+use Rattle.turn_slots.proofs.TableLemmas.{relay_itself}
 use Rattle.turn_relays.specs.Tables.{IsTable}
 use Rattle.turn_machine.specs.Relays.{Relay, is_for, is_users, is_at}
 use Rattle.turn_relays.specs.Newest.{newest_first}
 use Rattle.turn_relays.proofs.NewestLemmas.{passes, newest_count, newest_length}
-use Rattle.turn_relays.specs.Relayed.{Grants, grants_of, relay_of, joined, relays_in, number_of}
+use Rattle.turn_relays.specs.Relayed.{Grants, Table, grants_of, relay_of, joined, relays_in, number_of}
+
+-- the table that the fields are
+abbrev pub table_of : (clock next : ℕ) → State → List (Option Grants) → Table
+table_of clock next s ks = record { clock = clock; next = next; openings = s.round; secret = s.secret; slots = relays_in s.entries ks }
 
 -- ---- A slot
 
@@ -64,6 +70,9 @@ pub record From (o : Option Entry) (k : Option Grants) (r : Relay) : Type 0 wher
   pub entry : o ≡ Some e
   pub kept : k ≡ Some g
   pub relay : relay_of e g ≡ r
+
+pub none_isnt : {X : Type 0} (x : X) → None ≡ Some x → ⊥
+none_isnt x is = cc
 
 some_is : {X : Type 0} (x y : X) → Some x ≡ Some y → x ≡ y
 some_is x y is = cc
@@ -149,11 +158,11 @@ relays_length es ks beside =
 
 -- ---- Look-ups
 
-if_some : {X : Type 0} (o : Option X) (P Q : X → Type 0) → ((x : X) → P x → Q x) → IfSome o P → IfSome o Q
+pub if_some : {X : Type 0} (o : Option X) (P Q : X → Type 0) → ((x : X) → P x → Q x) → IfSome o P → IfSome o Q
 if_some None P Q f is = is
 if_some (Some x) P Q f is = f x is
 
-if_none : {X : Type 0} (o : Option X) (A B : Type 0) → (A → B) → IfNone o A → IfNone o B
+pub if_none : {X : Type 0} (o : Option X) (A B : Type 0) → (A → B) → IfNone o A → IfNone o B
 if_none None A B f is = f is
 if_none (Some x) A B f is = is
 
@@ -173,6 +182,14 @@ module _ (key : RelayKey) (es : List (Option Entry)) (ks : List (Option Grants))
       ((slot : ℕ) (r : Relay) → get_or (relays_in es ks) slot None ≡ Some r → is_for key.tuple key.family r ≡ false)
       (λ none slot r at. let it = relay_from es ks slot r at in
       subst (λ (x : Relay). is_for key.tuple key.family x ≡ false) it.relay (for_key key it.e it.g ∙ none slot it.e it.entry)) is
+
+  -- if no relayed address has the key, no entry has
+  pub key_free : ((i : ℕ) → is_some (get_or es i None) ≡ is_some (get_or ks i None))
+      → ((slot : ℕ) (r : Relay) → get_or (relays_in es ks) slot None ≡ Some r → is_for key.tuple key.family r ≡ false)
+      → (slot : ℕ) (e : Entry) → get_or es slot None ≡ Some e → is_relay key e.key ≡ false
+  key_free beside none slot e at =
+      let there = relay_there es ks beside slot e at in
+      sym (for_key key e there.0) ∙ none slot (relay_of e there.0) there.2
 
   pub key_only : (found : Option ℕ) → ((slot : ℕ) (e : Entry) → get_or es slot None ≡ Some e → is_relay key e.key ≡ true → found ≡ Some slot)
       → (slot : ℕ) (r : Relay) → get_or (relays_in es ks) slot None ≡ Some r → is_for key.tuple key.family r ≡ true → found ≡ Some slot
@@ -219,25 +236,6 @@ module _ (user : UserId) (low : user.low < 2 ^ 128) (es : List (Option Entry)) (
       (λ none slot r at. let it = relay_from es ks slot r at in
       subst (λ (x : Relay). is_users (user_number user) x ≡ false) it.relay (for_user user it.e.user low (users slot it.e it.entry) ∙ none slot it.e it.entry)) is
 
--- a number is of one slot
-pub number_alone : (next : ℕ) (s : State) (ks : List (Option Grants)) → IsTable next s ks → (i j : ℕ) (r q : Relay) → get_or (relays_in s.entries ks) i None ≡ Some r → get_or (relays_in s.entries ks) j None ≡ Some q → r.number ≡ q.number → i ≡ j
-number_alone next s ks t i j r q at also same =
-    let one = relay_from s.entries ks i r at in
-    let other = relay_from s.entries ks j q also in
-    let number = t.numbers i one.e one.entry in
-    let too = t.numbers j other.e other.entry in
-    let low = entry_below s.entries i one.e one.entry in
-    let below = entry_below s.entries j other.e other.entry in
-    let few = t.few in
-    let first = ap (λ (x : Relay). x.number) one.relay in
-    let second = ap (λ (x : Relay). x.number) other.relay in
-    omega (arith, number.1, too.1, low, below, few, first, second, same)
-  where
-    entry_below : (es : List (Option Entry)) (k : ℕ) (e : Entry) → get_or es k None ≡ Some e → k < length es
-    entry_below [] k e there = absurd cc
-    entry_below (x ∷ es) zero e there = omega arith
-    entry_below (x ∷ es) (suc k) e there = let more = entry_below es k e there in omega (arith, more)
-
 -- ---- A new table, and an end
 
 pub relays_none : (n : ℕ) → relays_in (replicate n None) (replicate n None) ≡ replicate n None
@@ -263,7 +261,9 @@ new_table n low s kept entries round kept_is = record {
   near = omega arith;
   below = λ i e at. absurd (none_in n i e (subst (λ (es : List (Option Entry)). get_or es i None ≡ Some e) entries at));
   users = λ i e at. absurd (none_in n i e (subst (λ (es : List (Option Entry)). get_or es i None ≡ Some e) entries at));
-  numbers = λ i e at. absurd (none_in n i e (subst (λ (es : List (Option Entry)). get_or es i None ≡ Some e) entries at));
+  numbered = λ i e at. absurd (none_in n i e (subst (λ (es : List (Option Entry)). get_or es i None ≡ Some e) entries at));
+  one_key = λ i j a b at other same. absurd (none_in n i a (subst (λ (es : List (Option Entry)). get_or es i None ≡ Some a) entries at));
+  soon = λ i e at. absurd (none_in n i e (subst (λ (es : List (Option Entry)). get_or es i None ≡ Some e) entries at));
 }
 
 pub set_none : {X : Type 0} (xs : List (Option X)) (i : ℕ) → get_or xs i None ≡ None → set xs i None ≡ xs
@@ -271,16 +271,8 @@ set_none [] i is = refl
 set_none (x ∷ xs) zero is = ap (λ y. y ∷ xs) (sym is)
 set_none (x ∷ xs) (suc i) is = ap (λ (ys : List (Option _)). x ∷ ys) (set_none xs i is)
 
--- an element after a set is the new one, or was there before
-pub set_from : {X : Type 0} (xs : List (Option X)) (i : ℕ) (o : Option X) (j : ℕ) (x : X) → get_or (set xs i o) j None ≡ Some x → (o ≡ Some x) ⊎ (get_or xs j None ≡ Some x)
-set_from [] i o j x at = inr at
-set_from (y ∷ xs) zero o zero x at = inl at
-set_from (y ∷ xs) zero o (suc j) x at = inr at
-set_from (y ∷ xs) (suc i) o zero x at = inr at
-set_from (y ∷ xs) (suc i) o (suc j) x at = set_from xs i o j x at
-
--- and the new one is in that slot
-set_at : {X : Type 0} (xs : List (Option X)) (i : ℕ) (o : Option X) (j : ℕ) (x : X) → get_or (set xs i o) j None ≡ Some x → ((j ≡ i) × (o ≡ Some x)) ⊎ (get_or xs j None ≡ Some x)
+-- an element after a set is the new one, in its place, or was there before
+pub set_at : {X : Type 0} (xs : List (Option X)) (i : ℕ) (o : Option X) (j : ℕ) (x : X) → get_or (set xs i o) j None ≡ Some x → ((j ≡ i) × (o ≡ Some x)) ⊎ (get_or xs j None ≡ Some x)
 set_at [] i o j x at = inr at
 set_at (y ∷ xs) zero o zero x at = inl (refl, at)
 set_at (y ∷ xs) zero o (suc j) x at = inr at
@@ -300,6 +292,13 @@ beside_set (x ∷ es) (y ∷ ks) size beside zero e k both (suc i) = beside (suc
 beside_set (x ∷ es) (y ∷ ks) size beside (suc slot) e k both zero = beside 0
 beside_set (x ∷ es) (y ∷ ks) size beside (suc slot) e k both (suc i) = beside_set es ks (omega (arith, size)) (λ j. beside (suc j)) slot e k both i
 
+-- an entry that is there after an end was there before
+ended_at : {X : Type 0} (xs : List (Option X)) (slot i : ℕ) (x : X) → get_or (set xs slot None) i None ≡ Some x → get_or xs i None ≡ Some x
+ended_at xs slot i x at = elim (set_at xs slot None i x at) [
+  | inl new ↦ absurd (none_isnt x new.1)
+  | inr old ↦ old
+]
+
 pub ended_table : (next : ℕ) (s : State) (ks : List (Option Grants)) → IsTable next s ks → (slot : ℕ) (s2 : State) → s2 ≡ without slot s → IsTable next s2 (set ks slot None)
 ended_table next s ks t slot s2 is = subst (λ (z : State). IsTable next z (set ks slot None)) (sym is) (record {
   few = let few = t.few in let size = length-set s.entries slot None in omega (arith, few, size);
@@ -307,18 +306,11 @@ ended_table next s ks t slot s2 is = subst (λ (z : State). IsTable next z (set 
   beside = beside_set s.entries ks t.size t.beside slot None None refl;
   fresh = t.fresh;
   near = t.near;
-  below = λ i e at. elim (set_from s.entries slot None i e at) [
-    | inl new ↦ absurd cc
-    | inr old ↦ t.below i e old
-  ];
-  users = λ i e at. elim (set_from s.entries slot None i e at) [
-    | inl new ↦ absurd cc
-    | inr old ↦ t.users i e old
-  ];
-  numbers = λ i e at. elim (set_from s.entries slot None i e at) [
-    | inl new ↦ absurd cc
-    | inr old ↦ t.numbers i e old
-  ];
+  below = λ i e at. t.below i e (ended_at s.entries slot i e at);
+  users = λ i e at. t.users i e (ended_at s.entries slot i e at);
+  numbered = λ i e at. t.numbered i e (ended_at s.entries slot i e at);
+  one_key = λ i j a b at other. t.one_key i j a b (ended_at s.entries slot i a at) (ended_at s.entries slot j b other);
+  soon = λ i e at. t.soon i e (ended_at s.entries slot i e at);
 })
 
 -- a free slot has no relayed address
@@ -335,31 +327,55 @@ some_kept (x ∷ xs) zero e f at (suc i) = refl
 some_kept (x ∷ xs) (suc slot) e f at zero = refl
 some_kept (x ∷ xs) (suc slot) e f at (suc i) = some_kept xs slot e f at i
 
--- an entry changes, but for its number and its user
-pub changed_table : (next : ℕ) (s : State) (ks : List (Option Grants)) → IsTable next s ks → (slot : ℕ) (e f : Entry) → get_or s.entries slot None ≡ Some e
-    → f.number ≡ e.number → f.user ≡ e.user → (s2 : State) → s2 ≡ record s { entries = set s.entries slot (Some f) } → IsTable next s2 ks
-changed_table next s ks t slot e f at number user s2 is = subst (λ (z : State). IsTable next z ks) (sym is) (record {
+-- an entry's deadline changes: an entry that is there then was there before, but for its deadline
+record Was (i : ℕ) (x : Entry) (xs : List (Option Entry)) : Type 0 where
+  e : Entry
+  at : get_or xs i None ≡ Some e
+  key : x.key ≡ e.key
+  user : x.user ≡ e.user
+  number : x.number ≡ e.number
+
+was_there : (slot until : ℕ) (e : Entry) (xs : List (Option Entry)) → get_or xs slot None ≡ Some e → (i : ℕ) (x : Entry)
+    → get_or (set xs slot (Some (record e { deadline = until }))) i None ≡ Some x → Was i x xs
+was_there slot until e xs at i x at_i = elim (set_at xs slot (Some (record e { deadline = until })) i x at_i) [
+  | inl new ↦
+      let same = some_is (record e { deadline = until }) x new.1 in
+      record {
+        e = e;
+        at = ap (λ (n : ℕ). get_or xs n None) new.0 ∙ at;
+        key = sym (ap (λ (z : Entry). z.key) same);
+        user = sym (ap (λ (z : Entry). z.user) same);
+        number = sym (ap (λ (z : Entry). z.number) same);
+      }
+  | inr old ↦ record { e = x; at = old; key = refl; user = refl; number = refl }
+]
+
+pub changed_table : (next : ℕ) (s : State) (ks : List (Option Grants)) → IsTable next s ks → (slot until : ℕ) (e : Entry) → get_or s.entries slot None ≡ Some e
+    → until < never → (s2 : State) → s2 ≡ record s { entries = set s.entries slot (Some (record e { deadline = until })) } → IsTable next s2 ks
+changed_table next s ks t slot until e at early s2 is = subst (λ (z : State). IsTable next z ks) (sym is) (record {
   few = let few = t.few in let size = length-set s.entries slot (Some f) in omega (arith, few, size);
   size = t.size ∙ sym (length-set s.entries slot (Some f));
   beside = λ i. some_kept s.entries slot e f at i ∙ t.beside i;
   fresh = t.fresh;
   near = t.near;
-  below = λ i x at_i. elim (set_from s.entries slot (Some f) i x at_i) [
-    | inl new ↦ let low = t.below slot e at in let same = ap (λ (z : Entry). z.number) (some_is f x new) in omega (arith, low, same, number)
-    | inr old ↦ t.below i x old
-  ];
-  users = λ i x at_i. elim (set_from s.entries slot (Some f) i x at_i) [
-    | inl new ↦ let low = t.users slot e at in let same = ap (λ (z : Entry). z.user.low) (some_is f x new) in let both = ap (λ (z : UserId). z.low) user in omega (arith, low, same, both)
-    | inr old ↦ t.users i x old
-  ];
-  numbers = λ i x at_i. elim (set_at s.entries slot (Some f) i x at_i) [
-    | inl new ↦
-        let it = t.numbers slot e at in
-        let same = ap (λ (z : Entry). z.number) (some_is f x new.1) in
-        (it.0, omega (arith, it.1, same, number, new.0))
-    | inr old ↦ t.numbers i x old
+  below = λ i x at_i. let it = was i x at_i in let low = t.below i it.e it.at in let number = it.number in omega (arith, low, number);
+  users = λ i x at_i. let it = was i x at_i in let low = t.users i it.e it.at in let same = ap (λ (z : UserId). z.low) it.user in omega (arith, low, same);
+  numbered = λ i x at_i. let it = was i x at_i in ap (λ (n : ℕ). n % places) it.number ∙ t.numbered i it.e it.at;
+  one_key = λ i j a b at_i at_j same.
+      let it = was i a at_i in
+      let other = was j b at_j in
+      t.one_key i j it.e other.e it.at other.at (sym it.key ∙ (same ∙ other.key));
+  soon = λ i x at_i. elim (set_at s.entries slot (Some f) i x at_i) [
+    | inl new ↦ let same = ap (λ (z : Entry). z.deadline) (some_is f x new.1) in omega (arith, early, same)
+    | inr old ↦ t.soon i x old
   ];
 })
+  where
+    f : Entry
+    f = record e { deadline = until }
+
+    was : (i : ℕ) (x : Entry) → get_or (set s.entries slot (Some f)) i None ≡ Some x → Was i x s.entries
+    was = was_there slot until e s.entries at
 
 pub relays_changed : (es : List (Option Entry)) (ks : List (Option Grants)) (slot : ℕ) (f : Entry) (g : Grants) → slot < length es → get_or ks slot None ≡ Some g
     → relays_in (set es slot (Some f)) ks ≡ set (relays_in es ks) slot (Some (relay_of f g))
@@ -380,27 +396,50 @@ none_or_some (Some x) = inr (x, refl)
 -- ---- An opening
 
 pub opened_table : (next : ℕ) (s : State) (ks : List (Option Grants)) → IsTable next s ks → (slot : ℕ) (e : Entry) (g : Grants) → slot < length s.entries
-    → e.number ≡ s.round * places + slot → e.user.low < 2 ^ 128 → (s2 : State) → s2 ≡ record s { entries = set s.entries slot (Some e); round = s.round + 1 }
+    → e.number ≡ s.round * places + slot → e.user.low < 2 ^ 128 → ((i : ℕ) (x : Entry) → get_or s.entries i None ≡ Some x → is_relay e.key x.key ≡ false) → e.deadline < never
+    → (s2 : State) → s2 ≡ record s { entries = set s.entries slot (Some e); round = s.round + 1 }
     → IsTable (e.number + 1) s2 (set ks slot (Some g))
-opened_table next s ks t slot e g low number user s2 is = subst (λ (z : State). IsTable (e.number + 1) z (set ks slot (Some g))) (sym is) (record {
+opened_table next s ks t slot e g low number user key early s2 is = subst (λ (z : State). IsTable (e.number + 1) z (set ks slot (Some g))) (sym is) (record {
   few = let few = t.few in let size = length-set s.entries slot (Some e) in omega (arith, few, size);
   size = length-set ks slot (Some g) ∙ (t.size ∙ sym (length-set s.entries slot (Some e)));
   beside = beside_set s.entries ks t.size t.beside slot (Some e) (Some g) refl;
   fresh = let few = t.few in omega (arith, few, low, number);
   near = omega (arith, number);
-  below = λ i x at. elim (set_from s.entries slot (Some e) i x at) [
-    | inl new ↦ let same = ap (λ (z : Entry). z.number) (some_is e x new) in omega (arith, same)
+  below = λ i x at. elim (set_at s.entries slot (Some e) i x at) [
+    | inl new ↦ let same = ap (λ (z : Entry). z.number) (some_is e x new.1) in omega (arith, same)
     | inr old ↦ let before = t.below i x old in let fresh = t.fresh in omega (arith, before, fresh, number)
   ];
-  users = λ i x at. elim (set_from s.entries slot (Some e) i x at) [
-    | inl new ↦ let same = ap (λ (z : Entry). z.user.low) (some_is e x new) in omega (arith, same, user)
+  users = λ i x at. elim (set_at s.entries slot (Some e) i x at) [
+    | inl new ↦ let same = ap (λ (z : Entry). z.user.low) (some_is e x new.1) in omega (arith, same, user)
     | inr old ↦ t.users i x old
   ];
-  numbers = λ i x at. elim (set_at s.entries slot (Some e) i x at) [
-    | inl new ↦ let same = ap (λ (z : Entry). z.number) (some_is e x new.1) in (s.round, omega (arith, same, number, new.0))
-    | inr old ↦ t.numbers i x old
+  numbered = λ i x at. elim (set_at s.entries slot (Some e) i x at) [
+    | inl new ↦
+        let few = t.few in
+        let same = ap (λ (z : Entry). z.number) (some_is e x new.1) in
+        let here = new.0 in
+        omega (arith, few, low, number, same, here)
+    | inr old ↦ t.numbered i x old
+  ];
+  one_key = λ i j a b at_i at_j same. elim (set_at s.entries slot (Some e) i a at_i) [
+    | inl new ↦ elim (set_at s.entries slot (Some e) j b at_j) [
+      | inl too ↦ new.0 ∙ sym too.0
+      | inr old ↦ absurd (apart j b old (ap (λ (z : Entry). z.key) (some_is e a new.1) ∙ same))
+    ]
+    | inr was ↦ elim (set_at s.entries slot (Some e) j b at_j) [
+      | inl new ↦ absurd (apart i a was (ap (λ (z : Entry). z.key) (some_is e b new.1) ∙ sym same))
+      | inr old ↦ t.one_key i j a b was old same
+    ]
+  ];
+  soon = λ i x at. elim (set_at s.entries slot (Some e) i x at) [
+    | inl new ↦ let same = ap (λ (z : Entry). z.deadline) (some_is e x new.1) in omega (arith, same, early)
+    | inr old ↦ t.soon i x old
   ];
 })
+  where
+    -- no other entry has the key
+    apart : (i : ℕ) (x : Entry) → get_or s.entries i None ≡ Some x → e.key ≡ x.key → ⊥
+    apart i x at same = false≢true (sym (key i x at) ∙ subst (λ (k : RelayKey). is_relay e.key k ≡ true) same (relay_itself e.key))
 
 -- all slots have relayed addresses
 pub all_taken : (es : List (Option Entry)) (ks : List (Option Grants)) → ((i : ℕ) → is_some (get_or es i None) ≡ is_some (get_or ks i None))

@@ -8,13 +8,14 @@
 #![tactic(auto)]
 
 mod binding;
+mod facts;
 mod granting;
 mod kept;
 mod laws;
 mod permitting;
+mod relayed;
 mod relays;
-mod seen;
 
 pub use laws::{list_follows_slots, lists_have_slots};
+pub use relayed::{Relayed, users_are_numbers};
 pub use relays::Relays;
-pub use seen::Relayed;

@@ -5,6 +5,7 @@ ghost use Rattle.turn_slots.specs.Deadlines.{never};
 ghost use Rattle.turn_slots.specs.Hashes.{secret_of};
 ghost use Rattle.turn_slots.specs.Users.{user_number};
 ghost use Rattle.turn_machine.specs.Relays.{Relay, is_for, is_users, is_at};
+ghost use Rattle.turn_relays.specs.Facts.{IsFirstEnd};
 ghost use Rattle.turn_relays.specs.Relayed.{relay_of, new_grants, Table, state_of, at_slot, Holds, Each, with_slot, opened, Opens, IsClosed, NumbersLast};
 
 use crate::kept::Kept;
@@ -181,6 +182,20 @@ impl<const P: usize, const C: usize> Relays<P, C> {
         self.clock = self.clock.max(now as u128);
     }
 
+    /// Returns the most relayed addresses at a time: each slot is below this.
+    ///
+    /// ```
+    /// use turn_relays::Relays;
+    ///
+    /// let relays = Relays::<16, 8>::new(alloc, 100, [1, 2])?;
+    /// assert_eq!(rt; (relays.capacity(), relays.len()), (100, 0));
+    /// ```
+    pub fn capacity(&self) -> usize
+        ensures { result ≡ length self.now.slots }
+    {
+        self.slots.capacity()
+    }
+
     /// Returns the number of relayed addresses.
     pub fn len(&self) -> usize
         ensures { result ≡ length (state_of self.now).relays }
@@ -234,14 +249,6 @@ impl<const P: usize, const C: usize> Relays<P, C> {
         self.slots.find_by_number(number)
     }
 
-    /// A law: a number is of one slot. The function does nothing.
-    pub fn numbers_are_distinct(&self)
-        ensures { (slot other : ℕ) (r s : Relay) → Holds self.now slot r → Holds self.now other s
-            → r.number ≡ s.number → slot ≡ other }
-    {
-        self.slots.len();
-    }
-
     /// Returns the slot of a relayed address of the user, or `None` if the user has none.
     pub fn find_by_user(&self, user: UserId) -> Option<usize>
         ensures some { IfSome result (λ slot. (r : Relay) × Holds self.now slot r
@@ -285,6 +292,34 @@ impl<const P: usize, const C: usize> Relays<P, C> {
         self.kept[slot] = Some(Kept::new(opened_by, address));
         self.next = number + 1;
         Some(number)
+    }
+
+    /// Returns the earliest moment at which a relayed address ends, or `None` if there is no relayed address.
+    ///
+    /// If that is not after the clock, [`Relays::end_due`] ends one.
+    ///
+    /// ```
+    /// use stun_endpoints::Endpoint;
+    /// use turn_relays::Relays;
+    /// use turn_slots::{RelayKey, UserId};
+    ///
+    /// let mut relays = Relays::<16, 8>::new(alloc, 2, [1, 2])?;
+    /// assert_eq!(rt; relays.next_due(), None);
+    /// let (key, user, address) = (RelayKey::default(), UserId::default(), Endpoint::default());
+    /// assert!(rt; relays.open(key, user, 7, address, 600).is_some());
+    /// assert_eq!(rt; relays.next_due(), Some(600));
+    /// let other = RelayKey { family: 1, ..key };
+    /// assert!(rt; relays.open(other, user, 7, address, 500).is_some());
+    /// assert_eq!(rt; relays.next_due(), Some(500));
+    /// relays.advance(500);
+    /// assert!(rt; relays.end_due().is_some());
+    /// assert_eq!(rt; relays.next_due(), Some(600));
+    /// ```
+    pub fn next_due(&self) -> Option<u128>
+        ensures some { IfSome result (λ due. IsFirstEnd due self.now) }
+        ensures none { IfNone result (Each self.now (λ r. ⊥)) }
+    {
+        self.slots.next_deadline()
     }
 
     /// Ends a relayed address that has expired, and returns its number. Call it until it returns `None` to

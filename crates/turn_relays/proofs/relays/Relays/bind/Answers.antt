@@ -4,8 +4,8 @@ use Rattle.std.proofs.lemmas.List.{get_or_default, get_or_past}
 use Rattle.turn_machine.specs.Rows.{permissions_after, with_channel}
 use Rattle.turn_machine.specs.Steps.{binding}
 use Rattle.turn_relays.specs.Relayed.{Table, relays_in, bound}
-use Rattle.turn_relays.proofs.SlotsLemmas.{asked_of, grants_at, family_is, family_of, relays_size}
-use Rattle.turn_relays.proofs.GrantingLemmas.{changed_same, changed_kept, room_for_peer, binding_is, binding_not, table_of}
+use Rattle.turn_relays.proofs.SlotsLemmas.{asked_of, grants_at, family_is, family_of, relays_size, table_of}
+use Rattle.turn_relays.proofs.GrantingLemmas.{changed_same, changed_kept, room_for_peer, binding_is, binding_not}
 use Rattle.turn_relays.proofs.relays.Relays.bind.Goals as goal
 
 pub returns-then-peer-family : goal.returns-then-peer-family

@@ -1,20 +1,19 @@
-use Rattle.std.proofs.Common.{◌≡◌, ℕ, ◌+◌, ◌*◌, List, Option, None, Some, get_or, set, inl, inr, refl, sym, ap, subst, ◌∙◌, arith}
+use Rattle.std.proofs.Common.{◌≡◌, ℕ, ◌+◌, ◌*◌, false, List, Option, None, Some, get_or, set, inl, inr, refl, sym, ap, subst, ◌∙◌, arith}
 use Rattle.std.specs.Prelude.{MatchOption}
 use Rattle.std.proofs.lemmas.List.{get_or-set_same}
 use Rattle.turn_slots.specs.declared.slots.Entry.{Entry}
 use Rattle.turn_slots.specs.Slots.{State}
 use Rattle.turn_slots.specs.Numbers.{places}
 use Rattle.turn_slots.specs.Users.{user_number}
-use Rattle.turn_machine.specs.Relays.{Relay}
-use Rattle.turn_relays.specs.Relayed.{Grants, Table, relay_of, relays_in, opened}
-use Rattle.turn_relays.proofs.SlotsLemmas.{relay_there, relay_missing, relays_size, relays_set, for_key, opened_table, all_taken}
+use Rattle.turn_machine.specs.Relays.{Relay, is_for}
+use Rattle.turn_relays.specs.Relayed.{Grants, Table, Each, relay_of, relays_in, opened}
+use Rattle.turn_relays.proofs.SlotsLemmas.{relay_missing, relays_size, relays_set, key_free, opened_table, all_taken}
 use Rattle.turn_relays.proofs.relays.Relays.open.Goals as goal
 
 pub open-requires-clause-key : goal.open-requires-clause-key
-open-requires-clause-key g c = λ slot e at.
-    let there = relay_there c.self.inside.slots.entries c.self.inside.kept.items c.self.invariant.table.beside slot e at in
-    sym (for_key c.args.key e there.0)
-    ∙ c.requires.key slot (relay_of e there.0) (subst (λ (z : Table). get_or z.slots slot None ≡ Some (relay_of e there.0)) c.self.view_is there.2)
+open-requires-clause-key g c =
+    key_free c.args.key c.self.inside.slots.entries c.self.inside.kept.items c.self.invariant.table.beside
+    (subst (λ (t : Table). Each t (λ r. is_for c.args.key.tuple c.args.key.family r ≡ false)) (sym c.self.view_is) c.requires.key)
 
 pub returns-in_err-slot-clause-none : goal.returns-in_err-slot-clause-none
 returns-in_err-slot-clause-none g c =
@@ -44,7 +43,13 @@ invariant_of-self-2 g c =
     let it = c.in_ok-slot.ensures.some in
     let e : Entry = record { key = c.args.key; user = c.args.user; number = c.self.inside.slots.round * places + c.in_ok-slot.slot; deadline = c.args.until } in
     let number = number_is c.number_in-number.result c.self.inside.slots.round c.in_ok-slot.slot e c.entries.result.now c.self.inside.slots.entries refl (c.entries.ensures ∙ ap (λ (s : State). s.entries) it.state) (get_or-set_same c.self.inside.slots.entries c.in_ok-slot.slot (Some e) None it.within) c.number_in-number.ensures in
-    record { table = rw number (opened_table c.self.inside.next c.self.inside.slots c.self.inside.kept.items c.self.invariant.table c.in_ok-slot.slot e c.new.result it.within refl c.are_halves.ensures c.open.new.self it.state); early = c.self.invariant.early; permissions = c.self.invariant.permissions; channels = c.self.invariant.channels }
+    record {
+      table = rw number (opened_table c.self.inside.next c.self.inside.slots c.self.inside.kept.items c.self.invariant.table c.in_ok-slot.slot e c.new.result it.within refl c.are_halves.ensures
+          (key_free c.args.key c.self.inside.slots.entries c.self.inside.kept.items c.self.invariant.table.beside (subst (λ (t : Table). Each t (λ r. is_for c.args.key.tuple c.args.key.family r ≡ false)) (sym c.self.view_is) c.requires.key)) c.requires.until c.open.new.self it.state);
+      early = c.self.invariant.early;
+      permissions = c.self.invariant.permissions;
+      channels = c.self.invariant.channels;
+    }
 
 pub returns-clause-some : goal.returns-clause-some
 returns-clause-some g c =

@@ -1,4 +1,4 @@
-use Rattle.std.proofs.Common.{◌≡◌, ℕ, Bool, true, false, List, Option, None, Some, get_or, set, inl, inr, refl, sym, ap, subst, ◌∙◌}
+use Rattle.std.proofs.Common.{◌≡◌, ℕ, Bool, true, false, List, Option, None, Some, get_or, set, inl, inr, sym, ap, subst, ◌∙◌}
 use Rattle.std.specs.Prelude.{MatchOption}
 use Rattle.turn_slots.specs.declared.slots.Entry.{Entry}
 use Rattle.turn_slots.specs.Slots.{State}
@@ -23,7 +23,7 @@ invariant_of-self g c =
             subst (λ (z : State). IsTable c.self.inside.next z c.self.inside.kept.items) (sym same) c.self.invariant.table
         | inr it ↦
             let new = (subst (Sets c.set_deadline.result c.args.slot c.args.until c.self.inside.slots c.set_deadline.new.self) it.1 c.set_deadline.ensures).1 in
-            changed_table c.self.inside.next c.self.inside.slots c.self.inside.kept.items c.self.invariant.table c.args.slot it.0 (record it.0 { deadline = c.args.until }) it.1 refl refl c.set_deadline.new.self new
+            changed_table c.self.inside.next c.self.inside.slots c.self.inside.kept.items c.self.invariant.table c.args.slot c.args.until it.0 it.1 c.requires c.set_deadline.new.self new
       ]);
       early = c.self.invariant.early;
       permissions = c.self.invariant.permissions;

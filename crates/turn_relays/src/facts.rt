@@ -1,0 +1,41 @@
+//! What is so of all relayed addresses at any time, for proofs about callers.
+
+ghost use Rattle.std.specs.Prelude.{◌≡◌, ◌<◌};
+ghost use Rattle.turn_slots.specs.Deadlines.{never};
+ghost use Rattle.turn_relays.specs.Facts.{NumbersAreDistinct, KeysAreDistinct};
+ghost use Rattle.turn_relays.specs.Relayed.{Each};
+
+use crate::relays::Relays;
+
+impl<const P: usize, const C: usize> Relays<P, C> {
+    /// No two relayed addresses have the same number. The call does nothing: its contract is the law.
+    pub fn numbers_are_distinct(&self)
+        ensures { NumbersAreDistinct self.now }
+    {
+        let _ = &self.clock;
+    }
+
+    /// No client has two relayed addresses of one family (RFC 8656, section 5). The call does nothing: its
+    /// contract is the law.
+    pub fn keys_are_distinct(&self)
+        ensures { KeysAreDistinct self.now }
+    {
+        let _ = &self.clock;
+    }
+
+    /// Each number is below that of the next relayed address. The call does nothing: its contract is the
+    /// law.
+    pub fn numbers_are_below_next(&self)
+        ensures { Each self.now (λ r. r.number < self.now.next) }
+    {
+        let _ = &self.clock;
+    }
+
+    /// Each end is before the last moment, as [`Relays::set_end`] requires. The call does nothing: its
+    /// contract is the law.
+    pub fn ends_are_possible(&self)
+        ensures { Each self.now (λ r. r.until < never) }
+    {
+        let _ = &self.clock;
+    }
+}
