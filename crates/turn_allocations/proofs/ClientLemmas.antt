@@ -14,13 +14,12 @@ use Rattle.turn_relays.specs.Newest.{put, newest_first}
 use Rattle.turn_relays.specs.Relayed.{Table, state_of, number_of, at_slot}
 use Rattle.turn_relays.specs.Following.{listed, EachOf, ListFollowsSlots}
 use Rattle.turn_relays.specs.Listing.{HasAt, ListHasSlots}
-use Rattle.turn_relays.specs.Seen.{Identity, identity_of, seen}
 use Rattle.turn_allocations.specs.declared.answer.Given.{Given}
 use Rattle.turn_allocations.specs.declared.client.Place.{Place}
 use Rattle.turn_allocations.specs.declared.client.Client.{Client}
 use Rattle.turn_allocations.specs.declared.families.Families.{Families}
 use Rattle.turn_allocations.specs.Answers.{given_in, given_list}
-use Rattle.turn_allocations.specs.Clients.{is_sound, AreSound, IsAt, IsFound, in_place, place_any, given_at, Owns}
+use Rattle.turn_allocations.specs.Clients.{Identity, identity_of, seen, is_sound, AreSound, IsAt, IsFound, in_place, place_any, given_at, Owns}
 use Rattle.turn_allocations.specs.Requests.{number_in}
 use Rattle.turn_allocations.proofs.OwnLemmas.{Within, any_kept, find_kept, first_kept, two, any_in, any_two, find_two_first, find_two_second, other_family, Found, free, alone, is_family_of, all_own}
 

@@ -132,8 +132,7 @@ ends_some p q rs among = record {
 pub none_ends : (p : Relay → Bool) (rs : List Relay) → AllByRecursion (λ a. p a ≡ false) rs → (filter (λ a. not (p a)) rs ≡ rs) × (filter p rs ≡ [])
 none_ends p [] each = (refl, refl)
 none_ends p (a ∷ rs) each =
-    let more = none_ends p rs each.1 in
-    (
+    let more = none_ends p rs each.1 in (
       cond-true (not (p a)) (a ∷ filter (λ x. not (p x)) rs) (filter (λ x. not (p x)) rs) (not_from_false (p a) each.0) ∙ ap (λ (bs : List Relay). a ∷ bs) more.0,
       cond-false (p a) (a ∷ filter p rs) (filter p rs) each.0 ∙ more.1,
     )

@@ -6,7 +6,9 @@ use Rattle.stun_endpoints.specs.declared.endpoints.FiveTuple.{FiveTuple}
 use Rattle.turn_machine.specs.Relays.{seconds, Relay, State, is_of, is_for}
 use Rattle.turn_relays.specs.Newest.{newest_first}
 use Rattle.turn_relays.specs.Relayed.{Table, state_of, number_of, at_slot, Holds, Each}
-use Rattle.turn_relays.specs.Seen.{Identity, identity_of, seen}
+use Rattle.turn_relays.specs.declared.relayed.Relayed.{Relayed}
+use Rattle.turn_slots.specs.Users.{user_number}
+use Rattle.stun_endpoints.specs.declared.endpoints.Endpoint.{Endpoint}
 use Rattle.turn_allocations.specs.declared.answer.Given.{Given}
 use Rattle.turn_allocations.specs.declared.client.Place.{Place}
 use Rattle.turn_allocations.specs.declared.client.Client.{Client}
@@ -24,6 +26,40 @@ is_sound clock r =
 
 abbrev pub AreSound : Table → Type 0
 AreSound t = AllByRecursion (λ r. is_sound t.clock r ≡ true) (state_of t).relays
+
+-- ---- What it is, without what it grants
+
+pub record Identity : Type 0 where
+  pub tuple : FiveTuple
+  pub user : ℕ
+  pub opened_by : ℕ
+  pub family : ℕ
+  pub number : ℕ
+  pub address : Endpoint
+  pub until : ℕ
+
+abbrev pub identity_of : Relay → Identity
+identity_of r = record {
+  tuple = r.tuple;
+  user = r.user;
+  opened_by = r.opened_by;
+  family = r.family;
+  number = r.number;
+  address = r.address;
+  until = r.until;
+}
+
+-- as the code shows it
+abbrev pub seen : Relayed → Identity
+seen r = record {
+  tuple = r.key.tuple;
+  user = user_number r.user;
+  opened_by = r.opened_by;
+  family = r.key.family;
+  number = r.number;
+  address = r.address;
+  until = r.until;
+}
 
 -- ---- A client's
 

@@ -1,9 +1,10 @@
 //! Allocate requests (RFC 8656, section 7.2).
 
-ghost use Rattle.std.specs.Prelude.{◌≡◌, ◌<◌, ℕ, Bool, true, false, not, MatchOption, length, None};
+ghost use Rattle.std.specs.Prelude.{◌≡◌, ◌+◌, ◌<◌, ◌≤◌, ℕ, Bool, true};
 ghost use Rattle.std.specs.Option.{option_map};
 ghost use Rattle.stun_endpoints.specs.declared.endpoints.FiveTuple.{FiveTuple};
 ghost use Rattle.turn_slots.specs.Deadlines.{never};
+ghost use Rattle.turn_slots.specs.Numbers.{rounds};
 ghost use Rattle.turn_slots.specs.Users.{user_number};
 ghost use Rattle.turn_machine.specs.Relays.{Setup, Rules, is_of};
 ghost use Rattle.turn_machine.specs.Events.{allocate};

@@ -17,7 +17,7 @@ ghost use Rattle.turn_allocations.specs.Requests.{number_in};
 use crate::answer::Given;
 use crate::families::Families;
 use stun_endpoints::FiveTuple;
-use turn_relays::{Relayed, Relays, list_follows_slots, lists_have_slots};
+use turn_relays::{Relayed, Relays, list_follows_slots, lists_have_slots, users_are_numbers};
 use turn_slots::{RelayKey, UserId};
 
 /// A relayed address and its slot.
@@ -48,6 +48,7 @@ fn find<const P: usize, const C: usize>(
     };
     let slot = relays.find_by_key(&key)?;
     let relayed = relays.get(slot)?;
+    users_are_numbers(relayed.user);
     Some(Place { slot, relayed })
 }
 

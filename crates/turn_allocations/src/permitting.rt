@@ -59,7 +59,10 @@ fn permit_fault<const P: usize, const C: usize, A: PeerPolicy>(
         (rules_of (A.allows_address policy.now) (A.allows_port policy.now))
         (state_of relays.now) tuple user peers.now }
 {
-    if !peers.iter().all(|peer| client.of_family(peer.ip.family).is_some()) {
+    if !peers
+        .iter()
+        .all(|peer| client.of_family(peer.ip.family).is_some())
+    {
         return Some(Refusal::PeerAddressFamilyMismatch);
     }
     if !peers.iter().all(|peer| allows_ip(policy, peer.ip)) {

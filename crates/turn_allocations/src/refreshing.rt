@@ -129,7 +129,12 @@ pub(crate) fn refresh<const P: usize, const C: usize>(
     if lifetime == 0 {
         end_wanted(relays, ended, client, family);
     } else {
-        set_ends(relays, client, family, relays.clock() + SECOND * lifetime as u128);
+        set_ends(
+            relays,
+            client,
+            family,
+            relays.clock() + SECOND * lifetime as u128,
+        );
     }
     Answer::Refreshed(lifetime)
 }

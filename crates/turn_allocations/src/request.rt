@@ -36,7 +36,10 @@ pub enum Request<'a> {
     /// CreatePermission (section 10.2): each XOR-PEER-ADDRESS. More than 64 are refused with 508.
     CreatePermission(&'a [Endpoint]),
     /// ChannelBind (section 12.2): CHANNEL-NUMBER and XOR-PEER-ADDRESS.
-    ChannelBind { number: u16, peer: Endpoint },
+    ChannelBind {
+        number: u16,
+        peer: Endpoint,
+    },
     /// A request other than Allocate that its bytes alone make unfit: refused with this, if the client has
     /// an allocation and it is the user's.
     Unfit(Refusal),
