@@ -149,8 +149,32 @@ module _ (t : Table) (tuple : FiveTuple) (client : Client) (owns : Owns t tuple 
             cond-false (p r) (Some r) (find p rs) parts.0 ∙ find_none p rs parts.1
           where
             or_both : (a b : Bool) → (a || b) ≡ false → (a ≡ false) × (b ≡ false)
-            or_both true b no = absurd cc
-            or_both false b no = (refl, no)
+            or_both true b nay = absurd cc
+            or_both false b nay = (refl, nay)
+
+  -- ---- Whose it is
+
+  pub none_own : not (is_some client.ipv4 || is_some client.ipv6) ≡ not (has_any tuple (state_of t))
+  none_own =
+      ap not (sym (any_own (is_of tuple) (λ i. true) (λ a isnt. isnt) (λ a is. is) ∙ both_some client.ipv4 client.ipv6))
+    where
+      both_some : (one other : Option Place) → (place_any (λ i. true) one || place_any (λ i. true) other) ≡ (is_some one || is_some other)
+      both_some None None = refl
+      both_some None (Some p) = refl
+      both_some (Some p) None = refl
+      both_some (Some p) (Some q) = refl
+
+  pub anothers_own : (user : ℕ) → (place_any (λ i. not (i.user == user)) client.ipv4 || place_any (λ i. not (i.user == user)) client.ipv6) ≡ has_of_another tuple user (state_of t)
+  anothers_own user =
+      sym (any_own (is_of_another tuple user) (λ i. not (i.user == user)) (λ a isnt. and_left (is_of tuple a) (not (is_users user a)) isnt)
+      (λ a is. ap (λ (b : Bool). b && not (is_users user a)) is))
+
+  pub opened_own : (user id : ℕ) → (place_any (λ i. (i.user == user) && (i.opened_by == id)) client.ipv4 || place_any (λ i. (i.user == user) && (i.opened_by == id)) client.ipv6)
+      ≡ list_any (λ a. is_owned tuple user a && (a.opened_by == id)) (state_of t).relays
+  opened_own user id =
+      sym (any_own (λ a. is_owned tuple user a && (a.opened_by == id)) (λ i. (i.user == user) && (i.opened_by == id))
+      (λ a isnt. and_left (is_owned tuple user a) (a.opened_by == id) (and_left (is_of tuple a) (is_users user a) isnt))
+      (λ a is. ap (λ (b : Bool). (b && is_users user a) && (a.opened_by == id)) is))
 
   -- ---- Ends
 
@@ -224,6 +248,26 @@ module _ (t : Table) (tuple : FiveTuple) (client : Client) (owns : Owns t tuple 
   number_place family None none = refl
   number_place family (Some place) it =
       ap (λ (i : Identity). i.number) it.shown ∙ ap (λ (o : Option Relay). option_map_or (λ a. a.number) o 0) (sym it.holds)
+
+-- ---- None, in each slot
+
+pub none_for : ListHasSlots → (t : Table) (tuple : FiveTuple) (family : ℕ) → has_of tuple family (state_of t) ≡ false → EachOf t.slots (λ _ r. is_for tuple family r ≡ false)
+none_for has t tuple family none at r there =
+    not_true (is_for tuple family r) (has.each t.slots (λ a. not (is_for tuple family a)) (each_not (listed t.slots) none) at r there)
+  where
+    not_true : (b : Bool) → not b ≡ true → b ≡ false
+    not_true true is = absurd cc
+    not_true false is = refl
+
+    or_both : (a b : Bool) → (a || b) ≡ false → (a ≡ false) × (b ≡ false)
+    or_both true b nay = absurd cc
+    or_both false b nay = (refl, nay)
+
+    each_not : (rs : List Relay) → list_any (is_for tuple family) rs ≡ false → AllByRecursion (λ a. not (is_for tuple family a) ≡ true) rs
+    each_not [] nay = tt
+    each_not (a ∷ rs) nay =
+        let parts = or_both (is_for tuple family a) (list_any (is_for tuple family) rs) nay in
+        (ap not parts.0, each_not rs parts.1)
 
 -- ---- All that a client has
 

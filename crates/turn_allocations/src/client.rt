@@ -136,7 +136,7 @@ impl Client {
         ensures { (t : Table) (tuple : FiveTuple) → Owns t tuple self.now
             → result ≡ not (has_any tuple (state_of t)) }
     {
-        self.ipv4.is_none() & self.ipv6.is_none()
+        !(self.ipv4.is_some() | self.ipv6.is_some())
     }
 
     /// Whether one belongs to another user.
@@ -165,11 +165,14 @@ impl Client {
         ensures some { (t : Table) (tuple : FiveTuple) → Owns t tuple self.now
             → is_some result ≡ has_of tuple family (state_of t) }
     {
-        match family {
-            1 => self.ipv4,
-            2 => self.ipv6,
-            _ => None,
+        lists_have_slots();
+        if family == 1 {
+            return self.ipv4;
         }
+        if family == 2 {
+            return self.ipv6;
+        }
+        None
     }
 
     /// Whether the client has one of a family, or a family isn't given.
