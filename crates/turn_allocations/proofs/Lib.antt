@@ -3,3 +3,4 @@ mod ChangingLemmas
 mod EndingLemmas
 mod ClientLemmas
 mod SweepingLemmas
+mod GrantingLemmas

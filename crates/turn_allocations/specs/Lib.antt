@@ -1,6 +1,7 @@
 pub mod Answers
 pub mod Clients
 pub mod Ending
+pub mod Granting
 pub mod Outputs
 pub mod Requests
 pub mod Serving

@@ -1,0 +1,26 @@
+-- What a request grants in a client's places.
+use Rattle.std.specs.Prelude.{ℕ, Bool, false, List, length, nat_lt, Option, None, Some}
+use Rattle.std.specs.Option.{option_map_or}
+use Rattle.stun_endpoints.specs.declared.endpoints.Endpoint.{Endpoint}
+use Rattle.turn_machine.specs.Relays.{Relay}
+use Rattle.turn_machine.specs.Rows.{permissions_after, with_channel}
+use Rattle.turn_relays.specs.Relayed.{Table, changed_slot}
+use Rattle.turn_allocations.specs.declared.client.Place.{Place}
+use Rattle.turn_allocations.specs.Clients.{in_place}
+
+-- the relayed address in a place passes a test: none does if there is none
+abbrev pub any_at : (Relay → Bool) → Table → Option Place → Bool
+any_at test t place = option_map_or test (in_place t place) false
+
+-- there is no room for permissions for these peers
+abbrev pub lacks_room : (most now : ℕ) → List Endpoint → Relay → Bool
+lacks_room most now peers r = nat_lt most (length (permissions_after now peers r))
+
+-- there is no room for a channel
+abbrev pub lacks_channel : (most now number : ℕ) → Endpoint → Relay → Bool
+lacks_channel most now number peer r = nat_lt most (length (with_channel now number peer r.channels))
+
+-- the relayed address in a place is changed, if there is one
+abbrev pub changed_in : Option Place → (Relay → Relay) → Table → Table
+changed_in None change t = t
+changed_in (Some place) change t = changed_slot place.slot change t
