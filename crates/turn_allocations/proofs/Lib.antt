@@ -4,3 +4,4 @@ mod EndingLemmas
 mod ClientLemmas
 mod SweepingLemmas
 mod GrantingLemmas
+mod RefreshingLemmas
