@@ -5,3 +5,4 @@ mod ClientLemmas
 mod SweepingLemmas
 mod GrantingLemmas
 mod RefreshingLemmas
+mod AllocatingLemmas
