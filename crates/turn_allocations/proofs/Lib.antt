@@ -2,3 +2,4 @@ mod OwnLemmas
 mod ChangingLemmas
 mod EndingLemmas
 mod ClientLemmas
+mod RelayingLemmas
