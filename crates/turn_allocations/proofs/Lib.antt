@@ -6,3 +6,4 @@ mod SweepingLemmas
 mod GrantingLemmas
 mod RefreshingLemmas
 mod AllocatingLemmas
+mod RelayingLemmas
