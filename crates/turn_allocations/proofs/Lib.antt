@@ -7,3 +7,4 @@ mod GrantingLemmas
 mod RefreshingLemmas
 mod AllocatingLemmas
 mod RelayingLemmas
+mod ServingLemmas
