@@ -6,21 +6,25 @@ use Rattle.std.specs.Prelude.{◌⊎◌, ◌&&◌, ◌||◌, ◌==◌, nat_lt, n
 use Rattle.std.proofs.lemmas.Bool.{cond_both, cond-true, cond-false, and_parts, and_from, and_left, and_right, cases_Bool, false_from_ne_true, not_from_false}
 use Rattle.stun_endpoints.specs.declared.endpoints.Endpoint.{Endpoint}
 use Rattle.stun_endpoints.specs.declared.endpoints.FiveTuple.{FiveTuple}
-use Rattle.turn_machine.specs.Relays.{seconds, Relay, Setup, Rules, State, is_of, is_for, is_users, is_owned}
+use Rattle.turn_machine.specs.Relays.{Relay, Setup, Rules, State, bound_for, is_of, is_for, is_users, is_owned}
 use Rattle.turn_machine.specs.Events.{Request, Output, answers, done, refused, permit, bind, unfit, permit_request, most_peers}
-use Rattle.turn_machine.specs.Rows.{row, with_permission_for, with_channel, has_any, has_of_another, is_of_another, own_rows, have_families, permit_rows, bind_rows, lacks_permissions, lacks_channels, is_bound_otherwise, clashes, fault}
+use Rattle.turn_machine.specs.Rows.{row, with_permission_for, with_channel, has_any, has_of_another, is_of_another, own_rows, have_families, permit_rows, bind_rows, lacks_permissions, lacks_channels, is_bound_otherwise, is_channel_number}
+use Rattle.turn_machine.specs.Opening.{has_of}
 use Rattle.turn_machine.specs.Steps.{Step, keeping, refuses, serves, fulfils, is_again, changed, permitting, binding}
 use Rattle.turn_relays.specs.Relayed.{Table, state_of, number_of, at_slot, with_slot, changed_slot}
 use Rattle.turn_relays.specs.Following.{listed, EachOf, ListFollowsSlots}
 use Rattle.turn_relays.specs.Listing.{HasAt, ListHasSlots}
 use Rattle.turn_allocations.specs.declared.answer.Answer.{Answer}
+use Rattle.turn_allocations.specs.declared.answer.Answer.TheVariants.{Done, Refused}
+use Rattle.turn_allocations.specs.declared.answer.Refusal.{Refusal}
+use Rattle.turn_allocations.specs.declared.answer.Refusal.TheVariants.{InsufficientCapacity}
 use Rattle.turn_allocations.specs.declared.client.Place.{Place}
 use Rattle.turn_allocations.specs.declared.client.Client.{Client}
-use Rattle.turn_allocations.specs.Answers.{answer_of}
+use Rattle.turn_allocations.specs.Answers.{answer_of, code_of}
 use Rattle.turn_allocations.specs.Clients.{is_sound, AreSound, IsAt, IsFound, in_place, Owns, Becomes}
 use Rattle.turn_allocations.specs.Ending.{Numbers, AreSame}
 use Rattle.turn_allocations.specs.Granting.{any_at, lacks_room, lacks_channel, changed_in}
-use Rattle.turn_allocations.specs.Serving.{Serves, Appends, IsDone}
+use Rattle.turn_allocations.specs.Serving.{Serves, Appends, IsDone, or_else}
 use Rattle.turn_allocations.proofs.OwnLemmas.{Within, any_kept, any_in, Found, free, alone, is_family_of}
 use Rattle.turn_allocations.proofs.ClientLemmas.{slot_of, found_is, any_both, sound_slots}
 use Rattle.turn_allocations.proofs.ChangingLemmas.{after_set, set_there, changed_at, changed_length, changed_is, each_of, Keeps, whole, AreUsers, changed_both}
@@ -360,3 +364,200 @@ binding_number lifetime now number peer a =
 pub binding_only : (lifetime now number : ℕ) (peer : Endpoint) → IsOfFamily peer.ip.family (binding lifetime now number peer)
 binding_only lifetime now number peer a apart =
     cond-false (peer.ip.family == a.family) (record a { permissions = with_permission_for lifetime now peer.ip a.permissions; channels = with_channel now number peer a.channels }) a apart
+
+-- none of the user's passes a test: nor does what is in the place
+none_owned : ListHasSlots → (t : Table) (tuple : FiveTuple) (user : ℕ) → has_of_another tuple user (state_of t) ≡ false → (family : ℕ) (place : Option Place) → IsFound t tuple family place
+    → (q : Relay → Bool) → list_any (owned_and tuple user q) (state_of t).relays ≡ false → any_at q t place ≡ false
+none_owned has t tuple user mine family None found q none = refl
+none_owned has t tuple user mine family (Some place) it q none =
+    let r = it.relay in
+    let is = is_of_it tuple family r it.is_its in
+    let owned = and_from (is_of tuple r) (is_users user r) is (are_users has t tuple user mine place.slot r it.holds is) in
+    ap (λ (o : Option Relay). option_map_or q o false) it.holds
+    ∙ (sym (and_true (is_owned tuple user r) (q r) owned)
+    ∙ not_true (owned_and tuple user q r) (has.each t.slots (λ a. not (owned_and tuple user q a)) (each_not (owned_and tuple user q) (listed t.slots) none) place.slot r it.holds))
+
+-- ---- The rows
+
+abbrev permit_three : (a b c : Bool) → Option ℕ
+permit_three a b c = row (not a) 443 (row (not b) 403 (row c 508 None))
+
+module _ (setup : Setup) (rules : Rules) (state : State) (tuple : FiveTuple) (user : ℕ) (peers : List Endpoint) where
+  abbrev first_row : Bool
+  first_row = have_families tuple peers state
+
+  abbrev second_row : Bool
+  second_row = list_all (λ peer. rules.allows_ip peer.ip) peers
+
+  abbrev third_row : Bool
+  third_row = list_any (lacks_permissions setup state.clock tuple user peers) state.relays
+
+  pub permit_443 : first_row ≡ false → Some 443 ≡ permit_rows setup rules state tuple user peers
+  permit_443 one = ap (λ (b : Bool). permit_three b second_row third_row) (sym one)
+
+  pub permit_403 : first_row ≡ true → second_row ≡ false → Some 403 ≡ permit_rows setup rules state tuple user peers
+  permit_403 one two = ap (λ (b : Bool). permit_three true b third_row) (sym two) ∙ ap (λ (b : Bool). permit_three b second_row third_row) (sym one)
+
+  pub permit_last : first_row ≡ true → second_row ≡ true → (b : Bool) → third_row ≡ b → row b 508 None ≡ permit_rows setup rules state tuple user peers
+  permit_last one two b three =
+      ap (λ (x : Bool). permit_three true true x) (sym three)
+      ∙ (ap (λ (x : Bool). permit_three true x third_row) (sym two) ∙ ap (λ (x : Bool). permit_three x second_row third_row) (sym one))
+
+abbrev bind_five : (number clash family allowed lacks : Bool) → Option ℕ
+bind_five number clash family allowed lacks =
+    row (not number) 400 (row clash 400 (row (not family) 443 (row (not allowed) 403 (row lacks 508 None))))
+
+module _ (setup : Setup) (rules : Rules) (state : State) (tuple : FiveTuple) (user number : ℕ) (peer : Endpoint) where
+  abbrev number_row : Bool
+  number_row = is_channel_number setup number
+
+  abbrev clash_row : Bool
+  clash_row = list_any (is_bound_otherwise state.clock tuple number peer) state.relays
+
+  abbrev family_row : Bool
+  family_row = has_of tuple peer.ip.family state
+
+  abbrev allowed_row : Bool
+  allowed_row = rules.allows_ip peer.ip && rules.allows_port peer
+
+  abbrev room_row : Bool
+  room_row = list_any (lacks_permissions setup state.clock tuple user (peer ∷ [])) state.relays || list_any (lacks_channels setup state.clock tuple user number peer) state.relays
+
+  pub bind_number : number_row ≡ false → Some 400 ≡ bind_rows setup rules state tuple user number peer
+  bind_number one = ap (λ (b : Bool). bind_five b clash_row family_row allowed_row room_row) (sym one)
+
+  from_number : number_row ≡ true → bind_five true clash_row family_row allowed_row room_row ≡ bind_rows setup rules state tuple user number peer
+  from_number one = ap (λ (b : Bool). bind_five b clash_row family_row allowed_row room_row) (sym one)
+
+  pub bind_clash : number_row ≡ true → clash_row ≡ true → Some 400 ≡ bind_rows setup rules state tuple user number peer
+  bind_clash one two = ap (λ (b : Bool). bind_five true b family_row allowed_row room_row) (sym two) ∙ from_number one
+
+  from_clash : number_row ≡ true → clash_row ≡ false → bind_five true false family_row allowed_row room_row ≡ bind_rows setup rules state tuple user number peer
+  from_clash one two = ap (λ (b : Bool). bind_five true b family_row allowed_row room_row) (sym two) ∙ from_number one
+
+  pub bind_family : number_row ≡ true → clash_row ≡ false → family_row ≡ false → Some 443 ≡ bind_rows setup rules state tuple user number peer
+  bind_family one two three = ap (λ (b : Bool). bind_five true false b allowed_row room_row) (sym three) ∙ from_clash one two
+
+  from_family : number_row ≡ true → clash_row ≡ false → family_row ≡ true → bind_five true false true allowed_row room_row ≡ bind_rows setup rules state tuple user number peer
+  from_family one two three = ap (λ (b : Bool). bind_five true false b allowed_row room_row) (sym three) ∙ from_clash one two
+
+  pub bind_allowed : number_row ≡ true → clash_row ≡ false → family_row ≡ true → allowed_row ≡ false → Some 403 ≡ bind_rows setup rules state tuple user number peer
+  bind_allowed one two three four = ap (λ (b : Bool). bind_five true false true b room_row) (sym four) ∙ from_family one two three
+
+  pub bind_last : number_row ≡ true → clash_row ≡ false → family_row ≡ true → allowed_row ≡ true → (b : Bool) → room_row ≡ b → row b 508 None ≡ bind_rows setup rules state tuple user number peer
+  bind_last one two three four b five =
+      ap (λ (x : Bool). bind_five true false true true x) (sym five)
+      ∙ (ap (λ (x : Bool). bind_five true false true x room_row) (sym four) ∙ from_family one two three)
+
+  -- no row applies: there is room
+  pub bind_room : None ≡ bind_rows setup rules state tuple user number peer → room_row ≡ false
+  bind_room none = rows number_row clash_row family_row allowed_row room_row none
+    where
+      rows : (n c f a r : Bool) → None ≡ bind_five n c f a r → r ≡ false
+      rows true false true true true none = absurd cc
+      rows true false true true false none = refl
+      rows true false true false r none = absurd cc
+      rows true false false a r none = absurd cc
+      rows true true f a r none = absurd cc
+      rows false c f a r none = absurd cc
+
+-- what the code asks of room is what the last row asks
+pub bind_lacks : ListFollowsSlots → ListHasSlots → (setup : Setup) (t : Table) (tuple : FiveTuple) (user : ℕ) → has_of_another tuple user (state_of t) ≡ false → (number : ℕ) (peer : Endpoint) (place : Option Place) → IsFound t tuple peer.ip.family place
+    → (permission channel : Bool) → permission ≡ list_any (lacks_permissions setup t.clock tuple user (peer ∷ [])) (state_of t).relays → channel ≡ any_at (lacks_channel setup.most_channels t.clock number peer) t place
+    → (list_any (lacks_permissions setup t.clock tuple user (peer ∷ [])) (state_of t).relays || list_any (lacks_channels setup t.clock tuple user number peer) (state_of t).relays) ≡ (permission || channel)
+bind_lacks follows has setup t tuple user mine number peer place found permission channel permission_is channel_is =
+    ap (λ (b : Bool). b || list_any (lacks_channels setup t.clock tuple user number peer) (state_of t).relays) (sym permission_is)
+    ∙ ap (λ (b : Bool). permission || b) (any_owned_for follows has t tuple user mine peer.ip.family place found (lacks_channel setup.most_channels t.clock number peer) ∙ sym channel_is)
+
+-- ---- What is refused
+
+module _ (setup : Setup) (rules : Rules) (t : Table) (tuple : FiveTuple) (user : ℕ) (fault : Option Refusal)
+    (own : (others : Option ℕ) → own_rows tuple user (state_of t) others ≡ or_else (option_map code_of fault) others) (ended : Numbers) where
+  -- by the owner's rows
+  owner : (refusal : Refusal) → fault ≡ Some refusal → (others : Option ℕ) → own_rows tuple user (state_of t) others ≡ Some (code_of refusal)
+  owner refusal is others = own others ∙ ap (λ (o : Option Refusal). or_else (option_map code_of o) others) is
+
+  -- by no row of the owner's
+  pub not_owner : fault ≡ None → (others : Option ℕ) → own_rows tuple user (state_of t) others ≡ others
+  not_owner is others = own others ∙ ap (λ (o : Option Refusal). or_else (option_map code_of o) others) is
+
+  pub mine_by : fault ≡ None → has_of_another tuple user (state_of t) ≡ false
+  mine_by is = mine_from tuple user (state_of t) (not_owner is None)
+
+  pub permit_owner : (peers : List Endpoint) (refusal : Refusal) → fault ≡ Some refusal → Serves setup rules tuple user (permit_request peers) t t ended ended (Refused refusal)
+  permit_owner peers refusal is =
+      served setup rules tuple user (permit_request peers) t t ended (Refused refusal) (state_of t)
+      (own_refuses setup rules tuple user peers (state_of t) (code_of refusal) (owner refusal is)) (unchanged t)
+
+  pub permit_many : (peers : List Endpoint) → fault ≡ None → nat_lt most_peers (length peers) ≡ true → Serves setup rules tuple user (permit_request peers) t t ended ended (Refused InsufficientCapacity)
+  permit_many peers is many =
+      served setup rules tuple user (permit_request peers) t t ended (Refused InsufficientCapacity) (state_of t)
+      (too_many setup rules tuple user peers (state_of t) (not_owner is) many) (unchanged t)
+
+  pub permit_refused : (peers : List Endpoint) → fault ≡ None → nat_lt most_peers (length peers) ≡ false → (rows : Option Refusal) → option_map code_of rows ≡ permit_rows setup rules (state_of t) tuple user peers
+      → (refusal : Refusal) → rows ≡ Some refusal → Serves setup rules tuple user (permit_request peers) t t ended ended (Refused refusal)
+  permit_refused peers is few rows by_rows refusal row_is =
+      served setup rules tuple user (permit_request peers) t t ended (Refused refusal) (state_of t)
+      (permits setup rules tuple user peers (state_of t) (not_owner is) few (Some (code_of refusal)) (ap (option_map code_of) (sym row_is) ∙ by_rows)) (unchanged t)
+
+  pub bind_owner : (number : ℕ) (peer : Endpoint) (refusal : Refusal) → fault ≡ Some refusal → Serves setup rules tuple user (bind number peer) t t ended ended (Refused refusal)
+  bind_owner number peer refusal is =
+      served setup rules tuple user (bind number peer) t t ended (Refused refusal) (state_of t)
+      (ap (λ (o : Option ℕ). option_map_or (refuses tuple (state_of t)) o (fulfils setup tuple user (bind number peer) (state_of t)))
+      (owner refusal is (bind_rows setup rules (state_of t) tuple user number peer))) (unchanged t)
+
+  pub bind_refused : (number : ℕ) (peer : Endpoint) → fault ≡ None → (rows : Option Refusal) → option_map code_of rows ≡ bind_rows setup rules (state_of t) tuple user number peer
+      → (refusal : Refusal) → rows ≡ Some refusal → Serves setup rules tuple user (bind number peer) t t ended ended (Refused refusal)
+  bind_refused number peer is rows by_rows refusal row_is =
+      served setup rules tuple user (bind number peer) t t ended (Refused refusal) (state_of t)
+      (ap (λ (o : Option ℕ). option_map_or (refuses tuple (state_of t)) o (fulfils setup tuple user (bind number peer) (state_of t)))
+      (not_owner is (bind_rows setup rules (state_of t) tuple user number peer) ∙ (sym by_rows ∙ ap (option_map code_of) row_is))) (unchanged t)
+
+-- ---- What is done
+
+module _ (follows : ListFollowsSlots) (has : ListHasSlots) (setup : Setup) (rules : Rules) (t : Table) (tuple : FiveTuple) (user : ℕ) (client : Client) (owns : Owns t tuple client)
+    (own : (others : Option ℕ) → own_rows tuple user (state_of t) others ≡ others) where
+  mine : has_of_another tuple user (state_of t) ≡ false
+  mine = mine_from tuple user (state_of t) (own None)
+
+  pub permit_serves : AreSound t → (peers : List Endpoint) (most : ℕ) → setup.most_permissions ≡ most → nat_lt most_peers (length peers) ≡ false → None ≡ permit_rows setup rules (state_of t) tuple user peers
+      → (one new : Table)
+      → (any_at (lacks_room most t.clock peers) t client.ipv4 ≡ false → one ≡ changed_in client.ipv4 (permitting t.clock peers) t)
+      → (any_at (lacks_room most one.clock peers) one client.ipv6 ≡ false → new ≡ changed_in client.ipv6 (permitting one.clock peers) one)
+      → (ended : Numbers) → Serves setup rules tuple user (permit_request peers) t new ended ended Done
+  permit_serves sound peers most is few none one new one_is new_is ended =
+      let change = permitting t.clock peers in
+      let rooms = has_room setup rules t tuple user client owns mine peers most is none in
+      let half = changed_in client.ipv4 change t in
+      let first : one ≡ half = one_is rooms.0 in
+      let clock : half.clock ≡ t.clock = ap (λ (x : Table). x.clock) (changed_in_is client.ipv4 change t) in
+      let room : any_at (lacks_room most one.clock peers) one client.ipv6 ≡ false =
+      ap (λ (x : Table). any_at (lacks_room most x.clock peers) x client.ipv6) first
+      ∙ (ap (λ (n : ℕ). any_at (lacks_room most n peers) half client.ipv6) clock
+      ∙ (ap (λ (o : Option Relay). option_map_or (lacks_room most t.clock peers) o false) (second_stays t tuple change client.ipv4 client.ipv6 owns.ipv4 owns.ipv6) ∙ rooms.1)) in
+      let both : new ≡ changed_in client.ipv6 change half =
+      new_is room
+      ∙ (ap (λ (x : Table). changed_in client.ipv6 (permitting x.clock peers) x) first
+      ∙ ap (λ (n : ℕ). changed_in client.ipv6 (permitting n peers) half) clock) in
+      served setup rules tuple user (permit_request peers) t new ended Done (changed tuple user change (state_of t))
+      (permits setup rules tuple user peers (state_of t) own few None none)
+      (subst (λ (x : Table). Becomes t x (changed tuple user change (state_of t))) (sym both)
+      (becomes_both follows has t tuple user client owns mine sound change (λ a. record { tuple = refl; user = refl; family = refl; number = refl })))
+
+  pub bind_serves : (number : ℕ) (peer : Endpoint) (place : Option Place) → IsFound t tuple peer.ip.family place → (lifetime : ℕ) → lifetime ≡ bound_for setup → None ≡ bind_rows setup rules (state_of t) tuple user number peer
+      → (new : Table)
+      → (any_at (lacks_room setup.most_permissions t.clock (peer ∷ [])) t place ≡ false → any_at (lacks_channel setup.most_channels t.clock number peer) t place ≡ false
+      → new ≡ changed_in place (binding lifetime t.clock number peer) t)
+      → (ended : Numbers) → Serves setup rules tuple user (bind number peer) t new ended ended Done
+  bind_serves number peer place found lifetime lasts none new new_is ended =
+      let rooms = or_both (list_any (lacks_permissions setup t.clock tuple user (peer ∷ [])) (state_of t).relays) (list_any (lacks_channels setup t.clock tuple user number peer) (state_of t).relays)
+      (bind_room setup rules (state_of t) tuple user number peer none) in
+      let room = none_owned has t tuple user mine peer.ip.family place found (lacks_room setup.most_permissions t.clock (peer ∷ [])) rooms.0 in
+      let channel = sym (any_owned_for follows has t tuple user mine peer.ip.family place found (lacks_channel setup.most_channels t.clock number peer)) ∙ rooms.1 in
+      let change = binding (bound_for setup) t.clock number peer in
+      let is : new ≡ changed_in place change t = new_is room channel ∙ ap (λ (n : ℕ). changed_in place (binding n t.clock number peer) t) lasts in
+      served setup rules tuple user (bind number peer) t new ended Done (changed tuple user change (state_of t))
+      (ap (λ (o : Option ℕ). option_map_or (refuses tuple (state_of t)) o (fulfils setup tuple user (bind number peer) (state_of t)))
+      (own (bind_rows setup rules (state_of t) tuple user number peer) ∙ sym none))
+      (subst (λ (x : Table). Becomes t x (changed tuple user change (state_of t))) (sym is)
+      (becomes_one tuple user peer.ip.family change (binding_only (bound_for setup) t.clock number peer) follows has t mine (binding_number (bound_for setup) t.clock number peer) place found))
