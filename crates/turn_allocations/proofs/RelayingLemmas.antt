@@ -1,9 +1,9 @@
 -- Data on a channel goes to the peer of the newest of the client's relayed addresses with this channel.
-use Rattle.std.proofs.Common.{◌≡◌, ℕ, Bool, true, false, cond, List, [], ◌∷◌, filter, find, Option, None, Some, refl, sym, ap, ◌∙◌, subst}
+use Rattle.std.proofs.Common.{◌≡◌, ℕ, Bool, true, false, cond, List, [], ◌∷◌, filter, find, Option, None, Some, refl, ap, ◌∙◌, subst}
 use Rattle.std.specs.List.{AllByRecursion, list_any}
 use Rattle.std.specs.Option.{option_map, option_or}
 use Rattle.std.specs.Prelude.{◌&&◌, ◌||◌, option_and_then, is_some}
-use Rattle.std.proofs.lemmas.Bool.{cond_both, cond-true, cond-false, and_left}
+use Rattle.std.proofs.lemmas.Bool.{cond_both, cond-false, and_left}
 use Rattle.stun_endpoints.specs.declared.endpoints.FiveTuple.{FiveTuple}
 use Rattle.turn_machine.specs.Relays.{Relay, is_of, is_channel}
 use Rattle.turn_machine.specs.declared.grants.Channel.{Channel}

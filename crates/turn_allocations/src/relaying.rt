@@ -224,9 +224,9 @@ fn may_bounce<const P: usize, const C: usize, A: PeerPolicy>(
     policy: &A,
 ) -> bool
     ensures { (icmp : Icmp) → icmp.type_number ≡ icmp_type
-        → result ≡ (option_map_or (is_permitted relays.now.clock peer.ip) (at_slot relays.now slot) false
+        → result ≡ option_map_or (is_permitted relays.now.clock peer.ip) (at_slot relays.now slot) false
         && (is_peer (A.allows_address policy.now) peer.ip
-        && (limits.now.icmp && is_passed peer.ip.family icmp))) }
+        && (limits.now.icmp && is_passed peer.ip.family icmp)) }
 {
     limits.icmp
         && is_passed(peer.ip.family, icmp_type)

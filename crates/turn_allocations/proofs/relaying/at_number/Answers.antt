@@ -1,4 +1,3 @@
-use Rattle.std.proofs.Common.{◌≡◌}
 use Rattle.turn_machine.specs.Relays.{is_at}
 use Rattle.turn_relays.specs.Relayed.{state_of}
 use Rattle.turn_allocations.proofs.RelayingLemmas.{find_missing}
