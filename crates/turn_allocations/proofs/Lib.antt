@@ -8,3 +8,4 @@ mod RefreshingLemmas
 mod AllocatingLemmas
 mod RelayingLemmas
 mod ServingLemmas
+mod SteppingLemmas
