@@ -76,7 +76,7 @@ filter_twice p q (a ∷ rs) among =
         ∙ (ap (λ (b : Bool). cond (not b) (a ∷ filter (λ x. not (p x)) (filter (λ x. not (q x)) rs)) (filter (λ x. not (p x)) (filter (λ x. not (q x)) rs))) is_p
         ∙ (ap (λ (bs : List Relay). a ∷ bs) more ∙ sym (ap (λ (b : Bool). cond (not b) (a ∷ filter (λ x. not (p x)) rs) (filter (λ x. not (p x)) rs)) is_p)))
 
-abbrev left_of : (q : Relay → Bool) → List Relay → List Relay
+abbrev pub left_of : (q : Relay → Bool) → List Relay → List Relay
 left_of q rs = filter (λ a. not (q a)) rs
 
 count_left : (p q : Relay → Bool) (n : ℕ) (rs : List Relay) → count_by (of_number p n) (left_of q rs) ≡ count_by (λ a. not (q a) && of_number p n a) rs

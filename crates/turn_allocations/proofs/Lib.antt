@@ -2,4 +2,9 @@ mod OwnLemmas
 mod ChangingLemmas
 mod EndingLemmas
 mod ClientLemmas
+mod SweepingLemmas
 mod GrantingLemmas
+mod RefreshingLemmas
+mod AllocatingLemmas
+mod RelayingLemmas
+mod ServingLemmas

@@ -3,6 +3,7 @@ pub mod Clients
 pub mod Ending
 pub mod Granting
 pub mod Outputs
+pub mod Refreshing
 pub mod Requests
 pub mod Serving
 pub mod Setups

@@ -1,8 +1,13 @@
 -- Where data and ICMP go, in the machine's terms.
-use Rattle.std.specs.Prelude.{ℕ, List, Option, None, Some}
+use Rattle.std.specs.Prelude.{◌≡◌, ℕ, List, [], ◌∷◌, filter, find, Option, None, Some}
+use Rattle.std.specs.Option.{option_map}
 use Rattle.stun_endpoints.specs.declared.endpoints.Endpoint.{Endpoint}
 use Rattle.stun_endpoints.specs.declared.endpoints.FiveTuple.{FiveTuple}
 use Rattle.turn_machine.specs.Events.{Icmp, Output, to_peer, to_client, to_client_on, to_client_icmp, nothing}
+use Rattle.turn_machine.specs.Relays.{Relay, is_of, is_channel}
+use Rattle.turn_relays.specs.Relayed.{Table, state_of, Holds}
+use Rattle.turn_allocations.specs.declared.client.Place.{Place}
+use Rattle.turn_allocations.specs.Clients.{identity_of, seen, in_place}
 use Rattle.turn_allocations.specs.declared.relaying.ToPeer.{ToPeer}
 use Rattle.turn_allocations.specs.declared.relaying.ToClient.{ToClient}
 
@@ -24,3 +29,33 @@ receiving (Some to) peer bytes = receiving_on to.tuple to.channel peer bytes
 abbrev pub bouncing : Option FiveTuple → Endpoint → Icmp → Output
 bouncing None peer icmp = nothing
 bouncing (Some tuple) peer icmp = to_client_icmp tuple peer icmp
+
+-- ---- What the code finds
+
+-- this is the relayed address, and its slot
+pub record IsOf (t : Table) (place : Place) (r : Relay) : Type 0 where
+  pub holds : Holds t place.slot r
+  pub shown : seen place.relayed ≡ identity_of r
+
+-- this is what is looked for, if it is there
+abbrev pub IsPlaced : Table → Option Place → Option Relay → Type 0
+IsPlaced t None o = o ≡ None
+IsPlaced t (Some place) o = (r : Relay) × IsOf t place r × (o ≡ Some r)
+
+-- none, one or two, in this order
+abbrev pub listed_two : Option Relay → Option Relay → List Relay
+listed_two None None = []
+listed_two None (Some s) = s ∷ []
+listed_two (Some r) None = r ∷ []
+listed_two (Some r) (Some s) = r ∷ s ∷ []
+
+-- the client's relayed addresses, the newest first
+pub record AreNewestFirst (t : Table) (tuple : FiveTuple) (one other : Option Place) : Type 0 where
+  pub first : IsPlaced t one (in_place t one)
+  pub second : IsPlaced t other (in_place t other)
+  pub all : filter (is_of tuple) (state_of t).relays ≡ listed_two (in_place t one) (in_place t other)
+
+-- the number of a relayed address, and the peer that a channel of it is bound to
+abbrev pub peer_by : (now channel : ℕ) → Relay → Option (ℕ × Endpoint)
+peer_by now channel r =
+    option_map (λ c. (r.number, c.peer)) (find (is_channel now channel) r.channels)

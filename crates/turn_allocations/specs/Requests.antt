@@ -1,18 +1,23 @@
 -- What requests ask for, in the machine's terms.
-use Rattle.std.specs.Prelude.{ℕ, ◌^◌, ◌-◌, ◌*◌, Bool, List, [], ◌∷◌, ◌++◌, Option, None, Some, nat_le, if◌then◌else◌}
+use Rattle.std.specs.Prelude.{◌≡◌, ℕ, ◌+◌, ◌^◌, ◌-◌, ◌*◌, ◌≤◌, Bool, true, List, [], ◌∷◌, ◌++◌, Option, None, Some, find, length, nat_le, if◌then◌else◌}
 use Rattle.std.specs.Option.{option_map_or}
 use Rattle.stun_endpoints.specs.declared.endpoints.Endpoint.{Endpoint}
-use Rattle.turn_machine.specs.Relays.{State}
-use Rattle.turn_machine.specs.Events.{Offer, Want as MachineWant, Request as MachineRequest, allocate, unfit_allocate, refresh, permit_request, bind, unfit}
+use Rattle.stun_endpoints.specs.declared.endpoints.FiveTuple.{FiveTuple}
+use Rattle.turn_machine.specs.Relays.{Setup, State, is_for}
+use Rattle.turn_machine.specs.Events.{Offer, Want as MachineWant, Request as MachineRequest, allocate, unfit_allocate, refresh, permit_request, bind, unfit, answers}
+use Rattle.turn_machine.specs.Opening.{opens}
+use Rattle.turn_machine.specs.Steps.{allocates}
+use Rattle.turn_relays.specs.Relayed.{Table, state_of}
 use Rattle.turn_allocations.specs.declared.families.Families.{Families}
 use Rattle.turn_allocations.specs.declared.answer.Given.{Given}
 use Rattle.turn_allocations.specs.declared.answer.Answer.{Answer}
-use Rattle.turn_allocations.specs.declared.answer.Answer.TheVariants.{Allocated, Refreshed, Done, Refused}
+use Rattle.turn_allocations.specs.declared.answer.Answer.TheVariants.{Allocated}
 use Rattle.turn_allocations.specs.declared.request.Want.{Want}
 use Rattle.turn_allocations.specs.declared.request.Want.TheVariants.{No, Unready, Ready}
 use Rattle.turn_allocations.specs.declared.request.Request.{Request}
 use Rattle.turn_allocations.specs.declared.request.Request.TheVariants.{Allocate, UnfitAllocate, Refresh, CreatePermission, ChannelBind, Unfit}
-use Rattle.turn_allocations.specs.Answers.{code_of}
+use Rattle.turn_allocations.specs.Answers.{code_of, answer_of}
+use Rattle.turn_allocations.specs.Clients.{Becomes}
 
 -- ---- The sockets that are ready
 
@@ -55,3 +60,27 @@ asked state answer (Refresh family lifetime) = refresh family lifetime
 asked state answer (CreatePermission peers) = permit_request peers.now
 asked state answer (ChannelBind number peer) = bind number peer
 asked state answer (Unfit refusal) = unfit (code_of refusal)
+
+-- ---- What an Allocate request opens
+
+-- the number of a client's relayed address of a family, or 0
+abbrev pub number_to : FiveTuple → (family : ℕ) → State → ℕ
+number_to tuple family state =
+    option_map_or (λ a. a.number) (find (is_for tuple family) state.relays) 0
+
+-- one relayed address of a family, if the client asks for it and can have it
+pub record OpensOf (setup : Setup) (tuple : FiveTuple) (user id until family : ℕ) (want : Want)
+    (old new : Table) : Type 0 where
+  pub state_is : state_of new ≡ opens setup tuple user id until
+      (wants_in true family (number_to tuple family (state_of new)) want) (state_of old)
+  pub slots : length new.slots ≡ length old.slots
+  pub clock : new.clock ≡ old.clock
+  pub openings : new.openings ≤ old.openings + 1
+
+-- all that can be had, for so many seconds
+pub record Grants (setup : Setup) (tuple : FiveTuple) (user id lifetime : ℕ) (wants : Families Want)
+    (old new : Table) (answer : Answer) : Type 0 where
+  pub becomes : Becomes old new (allocates setup tuple user id lifetime
+      (wants_of true (numbers_in answer) wants) (state_of old)).state
+  pub answered : (allocates setup tuple user id lifetime
+      (wants_of true (numbers_in answer) wants) (state_of old)).output ≡ answers tuple (answer_of answer)

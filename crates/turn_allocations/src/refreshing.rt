@@ -1,16 +1,18 @@
 //! Refresh requests (RFC 8656, section 8.2).
 
-ghost use Rattle.std.specs.Prelude.{◌≡◌, ℕ, ◌+◌, ◌<◌, ◌≤◌, ◌&&◌, false, length};
+ghost use Rattle.std.specs.Prelude.{◌≡◌, ℕ, ◌+◌, ◌<◌, ◌≤◌, ◌&&◌, ◌++◌, [], ◌∷◌, false, length, MatchOption};
 ghost use Rattle.stun_endpoints.specs.declared.endpoints.FiveTuple.{FiveTuple};
 ghost use Rattle.turn_slots.specs.Deadlines.{never};
 ghost use Rattle.turn_slots.specs.Users.{user_number};
-ghost use Rattle.turn_machine.specs.Relays.{Setup, Rules, is_owned};
+ghost use Rattle.turn_machine.specs.Relays.{seconds, Setup, Rules, is_owned};
 ghost use Rattle.turn_machine.specs.Events.{nothing, refresh};
 ghost use Rattle.turn_machine.specs.Rows.{has_of_another};
 ghost use Rattle.turn_machine.specs.Steps.{changed, closing, is_wanted, lasting};
 ghost use Rattle.turn_machine.specs.Times.{refreshed_for};
 ghost use Rattle.turn_relays.specs.Relayed.{state_of};
-ghost use Rattle.turn_allocations.specs.Clients.{AreSound, Becomes, Owns};
+ghost use Rattle.turn_allocations.specs.Clients.{lifetime_max, in_place, AreSound, Becomes, Owns};
+ghost use Rattle.turn_allocations.specs.Granting.{changed_in};
+ghost use Rattle.turn_allocations.specs.Refreshing.{if_wanted, ends_at, ended_in};
 ghost use Rattle.turn_allocations.specs.Serving.{IsDone, Serves};
 
 use crate::answer::{Answer, Refusal};
@@ -18,7 +20,7 @@ use crate::client::{Client, Place};
 use crate::ended::Ended;
 use crate::owning::owner_fault;
 use crate::sweeping::end_at;
-use turn_relays::Relays;
+use turn_relays::{Relays, list_follows_slots, lists_have_slots};
 use turn_slots::UserId;
 
 /// Nanoseconds of a second.
@@ -36,7 +38,9 @@ fn refreshed_for(wanted: Option<u32>, greatest: u32) -> u32
 }
 
 /// The place of a family, if a request is for it.
-fn if_wanted(place: Option<Place>, of: u8, family: Option<u8>) -> Option<Place> {
+fn if_wanted(place: Option<Place>, of: u8, family: Option<u8>) -> Option<Place>
+    ensures { result ≡ if_wanted place of family }
+{
     match family {
         Some(family) if family != of => None,
         _ => place,
@@ -48,7 +52,14 @@ fn end_in<const P: usize, const C: usize>(
     relays: &mut Relays<P, C>,
     ended: &mut Ended,
     place: Option<Place>,
-) {
+)
+    requires room { length ended.old.numbers + length (state_of relays.old).relays ≤ ended.old.room }
+    ensures slots { relays.new ≡ ended_in place relays.old }
+    ensures ended { MatchOption (in_place relays.old place) (ended.new ≡ ended.old)
+        (λ r. ended.new ≡ record ended.old { numbers = ended.old.numbers ++ r.number ∷ [] }) }
+    ensures room { length ended.new.numbers + length (state_of relays.new).relays ≤ ended.new.room }
+    ensures sound { AreSound relays.old → AreSound relays.new }
+{
     if let Some(place) = place {
         end_at(relays, ended, place.slot);
     }
@@ -62,13 +73,18 @@ fn end_wanted<const P: usize, const C: usize>(
     family: Option<u8>,
 )
     requires room { length ended.old.numbers + length (state_of relays.old).relays ≤ ended.old.room }
+    requires sound { AreSound relays.old }
     ensures done { (tuple : FiveTuple) (user : ℕ) → Owns relays.old tuple client.now
         → has_of_another tuple user (state_of relays.old) ≡ false
         → IsDone (closing (λ a. is_owned tuple user a && is_wanted family a) nothing (state_of relays.old))
         relays.old relays.new ended.old ended.new }
-    ensures sound { AreSound relays.old → AreSound relays.new }
+    ensures sound { AreSound relays.new }
 {
+    list_follows_slots();
+    lists_have_slots();
+    relays.numbers_are_distinct();
     end_in(relays, ended, if_wanted(client.ipv4, 1, family));
+    relays.numbers_are_distinct();
     end_in(relays, ended, if_wanted(client.ipv6, 2, family));
 }
 
@@ -79,6 +95,7 @@ fn set_end_in<const P: usize, const C: usize>(
     until: u128,
 )
     requires { until < never }
+    ensures { relays.new ≡ changed_in place (ends_at until) relays.old }
 {
     if let Some(place) = place {
         relays.set_end(place.slot, until);
@@ -92,11 +109,16 @@ fn set_ends<const P: usize, const C: usize>(
     family: Option<u8>,
     until: u128,
 )
-    requires { until < never }
-    ensures { (tuple : FiveTuple) (user : ℕ) → Owns relays.old tuple client.now
+    requires soon { until ≤ relays.old.clock + seconds lifetime_max }
+    requires until { until < never }
+    requires sound { AreSound relays.old }
+    ensures becomes { (tuple : FiveTuple) (user : ℕ) → Owns relays.old tuple client.now
         → has_of_another tuple user (state_of relays.old) ≡ false
         → Becomes relays.old relays.new (changed tuple user (lasting family until) (state_of relays.old)) }
+    ensures sound { AreSound relays.new }
 {
+    list_follows_slots();
+    lists_have_slots();
     set_end_in(relays, if_wanted(client.ipv4, 1, family), until);
     set_end_in(relays, if_wanted(client.ipv6, 2, family), until);
 }

@@ -1,20 +1,23 @@
 //! Where data and ICMP go (RFC 8656, sections 9, 11.2, 11.3, 11.5, 12.6 and 12.7).
 
-ghost use Rattle.std.specs.Prelude.{◌≡◌, ℕ, List, Bool};
-ghost use Rattle.turn_machine.specs.Relays.{Setup};
+ghost use Rattle.std.specs.Prelude.{◌≡◌, ℕ, List, Option, false, not, ◌&&◌, ◌||◌, find, option_and_then};
+ghost use Rattle.std.specs.Option.{option_map_or};
+ghost use Rattle.stun_endpoints.specs.declared.endpoints.FiveTuple.{FiveTuple};
+ghost use Rattle.turn_machine.specs.Relays.{Relay, Setup, is_at, is_permitted};
 ghost use Rattle.turn_machine.specs.Events.{Icmp, sends, sends_on, arrives, bounces};
-ghost use Rattle.turn_machine.specs.Data.{relayed};
-ghost use Rattle.turn_relays.specs.Relayed.{state_of};
-ghost use Rattle.turn_allocations.specs.Clients.{AreSound};
-ghost use Rattle.turn_allocations.specs.Outputs.{sending, receiving, bouncing};
+ghost use Rattle.turn_machine.specs.Data.{allows, has_channel, is_passed, relayed};
+ghost use Rattle.turn_relays.specs.Relayed.{Table, state_of, at_slot};
+ghost use Rattle.turn_peers.specs.Policies.{is_peer};
+ghost use Rattle.turn_allocations.specs.Clients.{AreSound, Owns};
+ghost use Rattle.turn_allocations.specs.Outputs.{sending, receiving, bouncing, IsPlaced, AreNewestFirst, peer_by};
 ghost use Rattle.turn_allocations.specs.Setups.{rules_of, setup_of};
 
 use crate::client::{Client, Place, client_of};
 use crate::limits::Limits;
 use crate::permitting::allows_ip;
-use stun_endpoints::{Endpoint, FiveTuple};
+use stun_endpoints::{Endpoint, FiveTuple, Ip};
 use turn_peers::PeerPolicy;
-use turn_relays::Relays;
+use turn_relays::{Relays, list_follows_slots, users_are_numbers};
 
 /// Where data of a client goes: from the socket of this number to a peer.
 #[derive(Clone, Copy, Debug, PartialEq, Eq)]
@@ -36,6 +39,31 @@ pub struct ToClient {
     pub channel: Option<u16>,
 }
 
+/// Whether a client may send to a peer.
+fn allows<A: PeerPolicy>(policy: &A, peer: Endpoint) -> bool
+    ensures { result
+        ≡ allows (rules_of (A.allows_address policy.now) (A.allows_port policy.now)) peer }
+{
+    allows_ip(policy, peer.ip) && policy.allows_port(peer)
+}
+
+/// Whether data with DONT-FRAGMENT, or without, can go from the relayed address in a slot to a peer.
+fn may_send<const P: usize, const C: usize, A: PeerPolicy>(
+    relays: &Relays<P, C>,
+    limits: &Limits,
+    slot: usize,
+    peer: Endpoint,
+    dont_fragment: bool,
+    policy: &A,
+) -> bool
+    ensures { result ≡ option_map_or (is_permitted relays.now.clock peer.ip) (at_slot relays.now slot) false
+        && (allows (rules_of (A.allows_address policy.now) (A.allows_port policy.now)) peer
+        && (not dont_fragment || limits.now.dont_fragment)) }
+{
+    relays.is_permitted(slot, peer.ip)
+        && (allows(policy, peer) && (!dont_fragment || limits.dont_fragment))
+}
+
 /// The peer that the data of a Send indication goes to.
 pub(crate) fn send<const P: usize, const C: usize, A: PeerPolicy>(
     relays: &Relays<P, C>,
@@ -47,15 +75,13 @@ pub(crate) fn send<const P: usize, const C: usize, A: PeerPolicy>(
 ) -> Option<ToPeer>
     requires { AreSound relays.now }
     ensures { (bytes : List ℕ)
-        → relayed (setup_of limits.now P C) (rules_of (A.allows_address policy.now) (A.allows_port policy.now))
+        → relayed (setup_of limits.now P C)
+        (rules_of (A.allows_address policy.now) (A.allows_port policy.now))
         (state_of relays.now) (sends tuple.now peer dont_fragment bytes) ≡ sending result bytes }
 {
-    let place = client_of(relays, tuple).of_family(peer.ip.family)?;
-    if !relays.is_permitted(place.slot, peer.ip)
-        || !allows_ip(policy, peer.ip)
-        || !policy.allows_port(peer)
-        || (dont_fragment && !limits.dont_fragment)
-    {
+    let client = client_of(relays, tuple);
+    let place = client.of_family(peer.ip.family)?;
+    if !may_send(relays, limits, place.slot, peer, dont_fragment, policy) {
         return None;
     }
     Some(ToPeer {
@@ -66,24 +92,47 @@ pub(crate) fn send<const P: usize, const C: usize, A: PeerPolicy>(
 }
 
 /// The places of a client, the newest first.
-fn newest_first(client: &Client) -> [Option<Place>; 2] {
+fn newest_first(client: &Client) -> (Option<Place>, Option<Place>)
+    ensures { (t : Table) (tuple : FiveTuple) → Owns t tuple client.now
+        → AreNewestFirst t tuple result.0 result.1 }
+{
     match (client.ipv4, client.ipv6) {
         (Some(one), Some(other)) if one.relayed.number < other.relayed.number => {
-            [Some(other), Some(one)]
+            (Some(other), Some(one))
         }
-        (one, other) => [one, other],
+        (one, other) => (one, other),
     }
 }
 
-/// The peer of a channel of the relayed address in a place.
+/// The number of the relayed address in a place, and the peer that a channel of it is bound to.
 fn peer_in<const P: usize, const C: usize>(
     relays: &Relays<P, C>,
     place: Option<Place>,
     channel: u16,
-) -> Option<(u64, Endpoint)> {
+) -> Option<(u64, Endpoint)>
+    ensures { (o : Option Relay) → IsPlaced relays.now place o
+        → result ≡ option_and_then (peer_by relays.now.clock channel) o }
+{
     let place = place?;
     let peer = relays.peer_on(place.slot, channel)?;
     Some((place.relayed.number, peer))
+}
+
+/// The number of the newest relayed address of a client with a channel, and the peer that it is bound to.
+fn peer_on<const P: usize, const C: usize>(
+    relays: &Relays<P, C>,
+    client: &Client,
+    channel: u16,
+) -> Option<(u64, Endpoint)>
+    ensures { (tuple : FiveTuple) → Owns relays.now tuple client.now
+        → result ≡ option_and_then (peer_by relays.now.clock channel)
+        (find (has_channel relays.now.clock tuple channel) (state_of relays.now).relays) }
+{
+    let (first, second) = newest_first(client);
+    match peer_in(relays, first, channel) {
+        Some(found) => Some(found),
+        None => peer_in(relays, second, channel),
+    }
 }
 
 /// The peer that the data of a ChannelData message goes to.
@@ -99,12 +148,8 @@ pub(crate) fn send_on<const P: usize, const C: usize, A: PeerPolicy>(
         (state_of relays.now) (sends_on tuple.now channel bytes) ≡ sending result bytes }
 {
     let client = client_of(relays, tuple);
-    let [first, second] = newest_first(&client);
-    let (number, peer) = match peer_in(relays, first, channel) {
-        Some(found) => found,
-        None => peer_in(relays, second, channel)?,
-    };
-    if !allows_ip(policy, peer.ip) || !policy.allows_port(peer) {
+    let (number, peer) = peer_on(relays, &client, channel)?;
+    if !allows(policy, peer) {
         return None;
     }
     Some(ToPeer {
@@ -112,6 +157,30 @@ pub(crate) fn send_on<const P: usize, const C: usize, A: PeerPolicy>(
         peer,
         dont_fragment: false,
     })
+}
+
+/// The relayed address with a number, and its slot.
+fn at_number<const P: usize, const C: usize>(relays: &Relays<P, C>, number: u64) -> Option<Place>
+    ensures { IsPlaced relays.now result (find (is_at number) (state_of relays.now).relays) }
+{
+    list_follows_slots();
+    let slot = relays.find_by_number(number)?;
+    let relayed = relays.get(slot)?;
+    users_are_numbers(relayed.user);
+    Some(Place { slot, relayed })
+}
+
+/// Whether data can come from an IP address to the relayed address in a slot.
+fn may_receive<const P: usize, const C: usize, A: PeerPolicy>(
+    relays: &Relays<P, C>,
+    slot: usize,
+    ip: Ip,
+    policy: &A,
+) -> bool
+    ensures { result ≡ option_map_or (is_permitted relays.now.clock ip) (at_slot relays.now slot) false
+        && is_peer (A.allows_address policy.now) ip }
+{
+    relays.is_permitted(slot, ip) && allows_ip(policy, ip)
 }
 
 /// The client that a peer's datagram goes to, by the number of the socket that it came to.
@@ -125,23 +194,43 @@ pub(crate) fn receive<const P: usize, const C: usize, A: PeerPolicy>(
         → relayed setup (rules_of (A.allows_address policy.now) (A.allows_port policy.now))
         (state_of relays.now) (arrives number peer bytes) ≡ receiving result peer bytes }
 {
-    let slot = relays.find_by_number(number)?;
-    let relayed = relays.get(slot)?;
-    if !relays.is_permitted(slot, peer.ip) || !allows_ip(policy, peer.ip) {
+    let place = at_number(relays, number)?;
+    if !may_receive(relays, place.slot, peer.ip, policy) {
         return None;
     }
     Some(ToClient {
-        tuple: relayed.key.tuple,
-        channel: relays.channel_to(slot, peer),
+        tuple: place.relayed.key.tuple,
+        channel: relays.channel_to(place.slot, peer),
     })
 }
 
 /// Whether ICMP of a type about a datagram of a family is relayed (RFC 8656, section 11.5).
-fn is_passed(family: u8, icmp_type: u8) -> bool {
+fn is_passed(family: u8, icmp_type: u8) -> bool
+    ensures { (icmp : Icmp) → icmp.type_number ≡ icmp_type → result ≡ is_passed family icmp }
+{
     match family {
         1 => icmp_type == 3 || icmp_type == 11,
         _ => icmp_type == 1 || icmp_type == 2 || icmp_type == 3,
     }
+}
+
+/// Whether ICMP of a type about a datagram to a peer goes on to the client of the relayed address in a slot.
+fn may_bounce<const P: usize, const C: usize, A: PeerPolicy>(
+    relays: &Relays<P, C>,
+    limits: &Limits,
+    slot: usize,
+    peer: Endpoint,
+    icmp_type: u8,
+    policy: &A,
+) -> bool
+    ensures { (icmp : Icmp) → icmp.type_number ≡ icmp_type
+        → result ≡ option_map_or (is_permitted relays.now.clock peer.ip) (at_slot relays.now slot) false
+        && (is_peer (A.allows_address policy.now) peer.ip
+        && (limits.now.icmp && is_passed peer.ip.family icmp)) }
+{
+    limits.icmp
+        && is_passed(peer.ip.family, icmp_type)
+        && may_receive(relays, slot, peer.ip, policy)
 }
 
 /// The client that ICMP about a datagram to a peer goes to, by the number of the socket that sent it.
@@ -153,17 +242,14 @@ pub(crate) fn bounce<const P: usize, const C: usize, A: PeerPolicy>(
     icmp_type: u8,
     policy: &A,
 ) -> Option<FiveTuple>
-    ensures { (icmp : Icmp) → icmp.type_number ≡ icmp_type → relayed (setup_of limits.now P C) (rules_of (A.allows_address policy.now) (A.allows_port policy.now))
+    ensures { (icmp : Icmp) → icmp.type_number ≡ icmp_type
+        → relayed (setup_of limits.now P C)
+        (rules_of (A.allows_address policy.now) (A.allows_port policy.now))
         (state_of relays.now) (bounces number peer icmp) ≡ bouncing result peer icmp }
 {
-    let slot = relays.find_by_number(number)?;
-    let relayed = relays.get(slot)?;
-    if !limits.icmp
-        || !is_passed(peer.ip.family, icmp_type)
-        || !relays.is_permitted(slot, peer.ip)
-        || !allows_ip(policy, peer.ip)
-    {
+    let place = at_number(relays, number)?;
+    if !may_bounce(relays, limits, place.slot, peer, icmp_type, policy) {
         return None;
     }
-    Some(relayed.key.tuple)
+    Some(place.relayed.key.tuple)
 }

@@ -1,17 +1,17 @@
 //! What ends relayed addresses: time, and the caller.
 
-ghost use Rattle.std.specs.Prelude.{◌≡◌, ◌+◌, ◌≤◌, Bool, [], length};
+ghost use Rattle.std.specs.Prelude.{◌≡◌, ◌+◌, ◌≤◌, ◌++◌, ◌∷◌, [], Bool, None, MatchOption, length};
 ghost use Rattle.turn_slots.specs.Users.{user_number};
 ghost use Rattle.turn_machine.specs.Relays.{Relay, is_users, is_at};
 ghost use Rattle.turn_machine.specs.Events.{nothing};
 ghost use Rattle.turn_machine.specs.Times.{at, over_at};
 ghost use Rattle.turn_machine.specs.Steps.{closing};
-ghost use Rattle.turn_relays.specs.Relayed.{state_of};
+ghost use Rattle.turn_relays.specs.Relayed.{state_of, at_slot, with_slot};
 ghost use Rattle.turn_allocations.specs.Clients.{Becomes, AreSound};
 ghost use Rattle.turn_allocations.specs.Serving.{Appends, IsDone, IsOnly};
 
 use crate::ended::Ended;
-use turn_relays::Relays;
+use turn_relays::{Relays, list_follows_slots, lists_have_slots};
 use turn_slots::UserId;
 
 /// Ends what has expired, once the clock is advanced.
@@ -21,7 +21,13 @@ fn end_expired<const P: usize, const C: usize>(relays: &mut Relays<P, C>, ended:
     ensures ended { Appends ended.old ended.new (over_at relays.old.clock (state_of relays.old)) }
     ensures room { length ended.new.numbers + length (state_of relays.new).relays ≤ ended.new.room }
 {
-    while let Some(number) = relays.end_due() {
+    list_follows_slots();
+    lists_have_slots();
+    'expired: loop {
+        relays.numbers_are_distinct();
+        let Some(number) = relays.end_due() else {
+            return;
+        };
         ended.push(number);
     }
 }
@@ -39,6 +45,7 @@ pub(crate) fn sweep<const P: usize, const C: usize>(
     ensures room { length ended.new.numbers + length (state_of relays.new).relays ≤ ended.new.room }
     ensures sound { AreSound relays.new }
 {
+    lists_have_slots();
     ended.clear();
     relays.advance(now);
     end_expired(relays, ended);
@@ -53,9 +60,15 @@ pub(crate) fn end_at<const P: usize, const C: usize>(
     requires room { length ended.old.numbers + length (state_of relays.old).relays ≤ ended.old.room }
     ensures done { (test : Relay → Bool) → IsOnly relays.old test slot
         → IsDone (closing test nothing (state_of relays.old)) relays.old relays.new ended.old ended.new }
+    ensures slots { relays.new ≡ with_slot slot None relays.old }
+    ensures ended { MatchOption (at_slot relays.old slot) (ended.new ≡ ended.old)
+        (λ r. ended.new ≡ record ended.old { numbers = ended.old.numbers ++ r.number ∷ [] }) }
     ensures room { length ended.new.numbers + length (state_of relays.new).relays ≤ ended.new.room }
     ensures sound { AreSound relays.old → AreSound relays.new }
 {
+    list_follows_slots();
+    lists_have_slots();
+    relays.numbers_are_distinct();
     if let Some(number) = relays.end(slot) {
         ended.push(number);
     }
@@ -72,6 +85,8 @@ pub(crate) fn end_number<const P: usize, const C: usize>(
         ended.old ended.new }
     ensures sound { AreSound relays.old → AreSound relays.new }
 {
+    list_follows_slots();
+    lists_have_slots();
     if let Some(slot) = relays.find_by_number(number) {
         end_at(relays, ended, slot);
     }
@@ -88,7 +103,13 @@ pub(crate) fn end_users<const P: usize, const C: usize>(
         relays.new ended.old ended.new }
     ensures sound { AreSound relays.old → AreSound relays.new }
 {
-    while let Some(slot) = relays.find_by_user(user) {
+    list_follows_slots();
+    lists_have_slots();
+    'users: loop {
+        let Some(slot) = relays.find_by_user(user) else {
+            return;
+        };
+        relays.numbers_are_distinct();
         end_at(relays, ended, slot);
     }
 }
