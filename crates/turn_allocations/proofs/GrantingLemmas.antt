@@ -1,19 +1,19 @@
 -- What is asked of a client's places, and what a change there leaves.
-use Rattle.std.proofs.Common.{◌≡◌, ℕ, ◌+◌, ◌<◌, ◌≤◌, zero, suc, Bool, true, false, not, cond, List, [], ◌∷◌, ◌++◌, map, filter, find, length, Option, None, Some, get_or, set, refl, sym, ap, ◌∙◌, subst, arith, eqb-true, eq-eqb, ltb-false, inl, inr}
+use Rattle.std.proofs.Common.{◌≡◌, ℕ, Bool, true, false, not, cond, List, [], ◌∷◌, map, length, Option, None, Some, get_or, set, refl, sym, ap, ◌∙◌, subst, arith, eqb-true, eq-eqb, inl, inr}
 use Rattle.std.specs.List.{AllByRecursion, list_any, list_all}
 use Rattle.std.specs.Option.{option_map, option_map_or}
-use Rattle.std.specs.Prelude.{◌⊎◌, ◌&&◌, ◌||◌, ◌==◌, nat_lt, nat_le}
-use Rattle.std.proofs.lemmas.Bool.{cond_both, cond-true, cond-false, and_parts, and_from, and_left, and_right, cases_Bool, false_from_ne_true, not_from_false}
+use Rattle.std.specs.Prelude.{◌&&◌, ◌||◌, ◌==◌, nat_lt}
+use Rattle.std.proofs.lemmas.Bool.{cond_both, cond-true, cond-false, and_parts, and_from, and_left, false_from_ne_true, or_parts}
 use Rattle.stun_endpoints.specs.declared.endpoints.Endpoint.{Endpoint}
 use Rattle.stun_endpoints.specs.declared.endpoints.FiveTuple.{FiveTuple}
 use Rattle.turn_machine.specs.Relays.{Relay, Setup, Rules, State, bound_for, is_of, is_for, is_users, is_owned}
-use Rattle.turn_machine.specs.Events.{Request, Output, answers, done, refused, permit, bind, unfit, permit_request, most_peers}
+use Rattle.turn_machine.specs.Events.{Request, answers, done, permit, bind, unfit, permit_request, most_peers}
 use Rattle.turn_machine.specs.Rows.{row, with_permission_for, with_channel, has_any, has_of_another, is_of_another, own_rows, have_families, permit_rows, bind_rows, lacks_permissions, lacks_channels, is_bound_otherwise, is_channel_number}
 use Rattle.turn_machine.specs.Opening.{has_of}
-use Rattle.turn_machine.specs.Steps.{Step, keeping, refuses, serves, fulfils, is_again, changed, permitting, binding}
-use Rattle.turn_relays.specs.Relayed.{Table, state_of, number_of, at_slot, with_slot, changed_slot}
+use Rattle.turn_machine.specs.Steps.{Step, keeping, refuses, serves, fulfils, changed, permitting, binding}
+use Rattle.turn_relays.specs.Relayed.{Table, state_of, at_slot, with_slot, changed_slot}
 use Rattle.turn_relays.specs.Following.{listed, EachOf, ListFollowsSlots}
-use Rattle.turn_relays.specs.Listing.{HasAt, ListHasSlots}
+use Rattle.turn_relays.specs.Listing.{ListHasSlots}
 use Rattle.turn_allocations.specs.declared.answer.Answer.{Answer}
 use Rattle.turn_allocations.specs.declared.answer.Answer.TheVariants.{Done, Refused}
 use Rattle.turn_allocations.specs.declared.answer.Refusal.{Refusal}
@@ -21,13 +21,13 @@ use Rattle.turn_allocations.specs.declared.answer.Refusal.TheVariants.{Insuffici
 use Rattle.turn_allocations.specs.declared.client.Place.{Place}
 use Rattle.turn_allocations.specs.declared.client.Client.{Client}
 use Rattle.turn_allocations.specs.Answers.{answer_of, code_of}
-use Rattle.turn_allocations.specs.Clients.{is_sound, AreSound, IsAt, IsFound, in_place, Owns, Becomes}
-use Rattle.turn_allocations.specs.Ending.{Numbers, AreSame}
+use Rattle.turn_allocations.specs.Clients.{is_sound, AreSound, IsFound, in_place, Owns, Becomes}
+use Rattle.turn_allocations.specs.Ending.{Numbers}
 use Rattle.turn_allocations.specs.Granting.{any_at, lacks_room, lacks_channel, changed_in}
 use Rattle.turn_allocations.specs.Serving.{Serves, Appends, IsDone, or_else}
-use Rattle.turn_allocations.proofs.OwnLemmas.{Within, any_kept, any_in, Found, free, alone, is_family_of}
+use Rattle.turn_allocations.proofs.OwnLemmas.{Within, any_kept, any_in}
 use Rattle.turn_allocations.proofs.ClientLemmas.{slot_of, found_is, any_both, sound_slots}
-use Rattle.turn_allocations.proofs.ChangingLemmas.{after_set, set_there, changed_at, changed_length, changed_is, each_of, Keeps, whole, AreUsers, changed_both}
+use Rattle.turn_allocations.proofs.ChangingLemmas.{after_set, set_there, changed_at, changed_length, changed_is, each_of, Keeps, changed_both}
 use Rattle.turn_allocations.proofs.EndingLemmas.{times_append}
 
 -- ---- Tests
@@ -36,21 +36,12 @@ no_both : (b : Bool) → b ≡ true → b ≡ false → ⊥
 no_both true is also = absurd cc
 no_both false is also = absurd cc
 
-or_both : (a b : Bool) → (a || b) ≡ false → (a ≡ false) × (b ≡ false)
-or_both true b none = absurd cc
-or_both false b none = (refl, none)
-
 or_none : (a : Bool) → (a || false) ≡ a
 or_none true = refl
 or_none false = refl
 
 some_same : (r s : Relay) → Some r ≡ Some s → r ≡ s
 some_same r s is = cc
-
--- there is room where there is no lack of it
-pub room_from : (f : Relay → ℕ) (most : ℕ) (o : Option Relay) → option_map_or (λ r. nat_lt most (f r)) o false ≡ false → option_map_or f o 0 ≤ most
-room_from f most None none = omega arith
-room_from f most (Some r) none = ltb-false most (f r) none
 
 -- ---- What the places have
 
@@ -100,7 +91,7 @@ module _ (t : Table) (tuple : FiveTuple) (client : Client) (owns : Owns t tuple 
 
   module _ (user : ℕ) (mine : has_of_another tuple user (state_of t) ≡ false) where
     mine_places : (any_in (is_of_another tuple user) (in_place t client.ipv4) ≡ false) × (any_in (is_of_another tuple user) (in_place t client.ipv6) ≡ false)
-    mine_places = or_both (any_in (is_of_another tuple user) (in_place t client.ipv4)) (any_in (is_of_another tuple user) (in_place t client.ipv6))
+    mine_places = or_parts (any_in (is_of_another tuple user) (in_place t client.ipv4)) (any_in (is_of_another tuple user) (in_place t client.ipv6))
         (sym (any_both t tuple client owns (is_of_another tuple user) (another_within tuple user)) ∙ mine)
 
     -- a test of the user's
@@ -125,7 +116,7 @@ none_pass p (r ∷ rs) each = ap (λ (b : Bool). b || list_any p rs) each.0 ∙ 
 each_not : (p : Relay → Bool) (rs : List Relay) → list_any p rs ≡ false → AllByRecursion (λ r. not (p r) ≡ true) rs
 each_not p [] none = tt
 each_not p (r ∷ rs) none =
-    let parts = or_both (p r) (list_any p rs) none in
+    let parts = or_parts (p r) (list_any p rs) none in
     (ap not parts.0, each_not p rs parts.1)
 
 not_true : (b : Bool) → not b ≡ true → b ≡ false
@@ -338,7 +329,7 @@ pub has_room : (setup : Setup) (rules : Rules) (t : Table) (tuple : FiveTuple) (
     → None ≡ permit_rows setup rules (state_of t) tuple user peers
     → (any_at (lacks_room most t.clock peers) t client.ipv4 ≡ false) × (any_at (lacks_room most t.clock peers) t client.ipv6 ≡ false)
 has_room setup rules t tuple user client owns mine peers most is none =
-    or_both (any_at (lacks_room most t.clock peers) t client.ipv4) (any_at (lacks_room most t.clock peers) t client.ipv6)
+    or_parts (any_at (lacks_room most t.clock peers) t client.ipv4) (any_at (lacks_room most t.clock peers) t client.ipv6)
     (sym (any_owned t tuple client owns user mine (lacks_room most t.clock peers))
     ∙ subst (λ (m : ℕ). list_any (λ a. is_owned tuple user a && lacks_room m t.clock peers a) (state_of t).relays ≡ false) is
     (last_none (have_families tuple peers (state_of t)) (list_all (λ peer. rules.allows_ip peer.ip) peers) (list_any (lacks_permissions setup t.clock tuple user peers) (state_of t).relays) none))
@@ -520,12 +511,13 @@ module _ (follows : ListFollowsSlots) (has : ListHasSlots) (setup : Setup) (rule
   mine : has_of_another tuple user (state_of t) ≡ false
   mine = mine_from tuple user (state_of t) (own None)
 
-  pub permit_serves : AreSound t → (peers : List Endpoint) (most : ℕ) → setup.most_permissions ≡ most → nat_lt most_peers (length peers) ≡ false → None ≡ permit_rows setup rules (state_of t) tuple user peers
-      → (one new : Table)
+  pub permit_serves : AreSound t → (peers : List Endpoint) (most : ℕ) → setup.most_permissions ≡ most → nat_lt most_peers (length peers) ≡ false
+      → (rows : Option Refusal) → rows ≡ None → option_map code_of rows ≡ permit_rows setup rules (state_of t) tuple user peers → (one new : Table)
       → (any_at (lacks_room most t.clock peers) t client.ipv4 ≡ false → one ≡ changed_in client.ipv4 (permitting t.clock peers) t)
       → (any_at (lacks_room most one.clock peers) one client.ipv6 ≡ false → new ≡ changed_in client.ipv6 (permitting one.clock peers) one)
       → (ended : Numbers) → Serves setup rules tuple user (permit_request peers) t new ended ended Done
-  permit_serves sound peers most is few none one new one_is new_is ended =
+  permit_serves sound peers most is few rows row_is by_rows one new one_is new_is ended =
+      let none : None ≡ permit_rows setup rules (state_of t) tuple user peers = ap (option_map code_of) (sym row_is) ∙ by_rows in
       let change = permitting t.clock peers in
       let rooms = has_room setup rules t tuple user client owns mine peers most is none in
       let half = changed_in client.ipv4 change t in
@@ -544,13 +536,14 @@ module _ (follows : ListFollowsSlots) (has : ListHasSlots) (setup : Setup) (rule
       (subst (λ (x : Table). Becomes t x (changed tuple user change (state_of t))) (sym both)
       (becomes_both follows has t tuple user client owns mine sound change (λ a. record { tuple = refl; user = refl; family = refl; number = refl })))
 
-  pub bind_serves : (number : ℕ) (peer : Endpoint) (place : Option Place) → IsFound t tuple peer.ip.family place → (lifetime : ℕ) → lifetime ≡ bound_for setup → None ≡ bind_rows setup rules (state_of t) tuple user number peer
-      → (new : Table)
+  pub bind_serves : (number : ℕ) (peer : Endpoint) (place : Option Place) → IsFound t tuple peer.ip.family place → (lifetime : ℕ) → lifetime ≡ bound_for setup
+      → (rows : Option Refusal) → rows ≡ None → option_map code_of rows ≡ bind_rows setup rules (state_of t) tuple user number peer → (new : Table)
       → (any_at (lacks_room setup.most_permissions t.clock (peer ∷ [])) t place ≡ false → any_at (lacks_channel setup.most_channels t.clock number peer) t place ≡ false
       → new ≡ changed_in place (binding lifetime t.clock number peer) t)
       → (ended : Numbers) → Serves setup rules tuple user (bind number peer) t new ended ended Done
-  bind_serves number peer place found lifetime lasts none new new_is ended =
-      let rooms = or_both (list_any (lacks_permissions setup t.clock tuple user (peer ∷ [])) (state_of t).relays) (list_any (lacks_channels setup t.clock tuple user number peer) (state_of t).relays)
+  bind_serves number peer place found lifetime lasts rows row_is by_rows new new_is ended =
+      let none : None ≡ bind_rows setup rules (state_of t) tuple user number peer = ap (option_map code_of) (sym row_is) ∙ by_rows in
+      let rooms = or_parts (list_any (lacks_permissions setup t.clock tuple user (peer ∷ [])) (state_of t).relays) (list_any (lacks_channels setup t.clock tuple user number peer) (state_of t).relays)
       (bind_room setup rules (state_of t) tuple user number peer none) in
       let room = none_owned has t tuple user mine peer.ip.family place found (lacks_room setup.most_permissions t.clock (peer ∷ [])) rooms.0 in
       let channel = sym (any_owned_for follows has t tuple user mine peer.ip.family place found (lacks_channel setup.most_channels t.clock number peer)) ∙ rooms.1 in

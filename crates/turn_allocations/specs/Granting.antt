@@ -8,15 +8,15 @@ use Rattle.turn_relays.specs.Relayed.{Table, changed_slot}
 use Rattle.turn_allocations.specs.declared.client.Place.{Place}
 use Rattle.turn_allocations.specs.Clients.{in_place}
 
--- the relayed address in a place passes a test: none does if there is none
+-- a test of the relayed address in a place: false if there is none
 abbrev pub any_at : (Relay → Bool) → Table → Option Place → Bool
 any_at test t place = option_map_or test (in_place t place) false
 
--- there is no room for permissions for these peers
+-- with permissions for these peers it has more than there may be
 abbrev pub lacks_room : (most now : ℕ) → List Endpoint → Relay → Bool
 lacks_room most now peers r = nat_lt most (length (permissions_after now peers r))
 
--- there is no room for a channel
+-- with this channel it has more than there may be
 abbrev pub lacks_channel : (most now number : ℕ) → Endpoint → Relay → Bool
 lacks_channel most now number peer r = nat_lt most (length (with_channel now number peer r.channels))
 

@@ -5,7 +5,7 @@ ghost use Rattle.std.specs.List.{list_any};
 ghost use Rattle.std.specs.Option.{option_map};
 ghost use Rattle.stun_endpoints.specs.declared.endpoints.FiveTuple.{FiveTuple};
 ghost use Rattle.turn_slots.specs.Users.{user_number};
-ghost use Rattle.turn_machine.specs.Relays.{Setup, Rules, bound_for};
+ghost use Rattle.turn_machine.specs.Relays.{bound_for};
 ghost use Rattle.turn_machine.specs.Events.{bind};
 ghost use Rattle.turn_machine.specs.Rows.{has_of_another, is_channel_number, clashes, is_bound_otherwise, bind_rows};
 ghost use Rattle.turn_machine.specs.Data.{allows};

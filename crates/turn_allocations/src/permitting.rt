@@ -5,7 +5,7 @@ ghost use Rattle.std.specs.List.{list_any, list_all};
 ghost use Rattle.std.specs.Option.{option_map};
 ghost use Rattle.stun_endpoints.specs.declared.endpoints.FiveTuple.{FiveTuple};
 ghost use Rattle.turn_slots.specs.Users.{user_number};
-ghost use Rattle.turn_machine.specs.Relays.{Setup, Rules, State};
+ghost use Rattle.turn_machine.specs.Relays.{Setup};
 ghost use Rattle.turn_machine.specs.Events.{permit_request};
 ghost use Rattle.turn_machine.specs.Rows.{has_of_another, have_families, lacks_permissions, permit_rows};
 ghost use Rattle.turn_machine.specs.Steps.{permitting};
@@ -67,8 +67,7 @@ fn lacks_permissions_in<const P: usize, const C: usize>(
     }
 }
 
-/// Whether one of the user's relayed addresses, which are all that the client has, has no room for
-/// permissions for peers.
+/// Whether one of the client's relayed addresses has no room for permissions for peers.
 pub(crate) fn lacks_permissions<const P: usize, const C: usize>(
     relays: &Relays<P, C>,
     client: &Client,

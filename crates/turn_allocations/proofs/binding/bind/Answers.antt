@@ -1,7 +1,4 @@
-use Rattle.std.proofs.Common.{sym, ap, ◌∙◌}
-use Rattle.std.specs.Option.{option_map}
 use Rattle.turn_slots.specs.Users.{user_number}
-use Rattle.turn_allocations.specs.Answers.{code_of}
 use Rattle.turn_allocations.specs.Setups.{rules_of, setup_of}
 use Rattle.turn_allocations.proofs.GrantingLemmas.{not_owner, mine_by, bind_owner, bind_refused, bind_serves}
 use Rattle.turn_allocations.proofs.binding.bind.Goals as goal
@@ -34,7 +31,7 @@ returns-clause-serves g c = λ tuple ended owns.
     bind_serves c.list_follows_slots.ensures c.lists_have_slots.ensures setup rules t tuple user c.args.client.now owns own
     c.args.number c.args.peer c.of_family-place.result (c.of_family-place.ensures.found t tuple owns)
     c.bound_for.result (c.bound_for.ensures g.row.P g.row.C)
-    (ap (option_map code_of) (sym c.in_default-bind_fault.is) ∙ c.bind_fault.ensures tuple user owns mine)
+    c.bind_fault.result c.in_default-bind_fault.is (c.bind_fault.ensures tuple user owns mine)
     c.bind_in.new.relays c.bind_in.ensures.binds ended
 
 pub returns-clause-sound : goal.returns-clause-sound

@@ -1,9 +1,7 @@
-use Rattle.std.proofs.Common.{length, refl, sym, ap, ◌∙◌}
-use Rattle.std.specs.Option.{option_map}
+use Rattle.std.proofs.Common.{length}
 use Rattle.std.proofs.lemmas.Bool.{lt-ltb, le-ltb}
 use Rattle.turn_machine.specs.Events.{most_peers}
 use Rattle.turn_slots.specs.Users.{user_number}
-use Rattle.turn_allocations.specs.Answers.{code_of}
 use Rattle.turn_allocations.specs.Setups.{rules_of}
 use Rattle.turn_allocations.proofs.GrantingLemmas.{not_owner, mine_by, permit_owner, permit_many, permit_refused, permit_serves}
 use Rattle.turn_allocations.proofs.permitting.permit.Goals as goal
@@ -39,7 +37,7 @@ returns-clause-serves g c = λ setup tuple ended most owns.
     let mine = mine_by setup rules t tuple user c.owner_fault.result (λ others. c.owner_fault.ensures t tuple others owns) ended c.in_default.is in
     permit_serves c.list_follows_slots.ensures c.lists_have_slots.ensures setup rules t tuple user c.args.client.now owns own
     c.requires.sound c.args.peers.now g.row.P most (le-ltb most_peers (length c.args.peers.now) c.if-peers-gt-PEERS_MAX.false)
-    (ap (option_map code_of) (sym c.in_default-permit_fault.is) ∙ c.permit_fault.ensures setup tuple user most owns mine)
+    c.permit_fault.result c.in_default-permit_fault.is (c.permit_fault.ensures setup tuple user most owns mine)
     c.permit_in.new.relays c.permit_in-2.new.relays c.permit_in.ensures.permits c.permit_in-2.ensures.permits ended
 
 pub returns-clause-sound : goal.returns-clause-sound
