@@ -1,11 +1,12 @@
 -- A call is a step of the machine: a sweep, and what happens then.
-use Rattle.std.proofs.Common.{◌≡◌, ℕ, ◌+◌, ◌≤◌, ◌^◌, List, [], ◌++◌, refl, sym, ap, ◌∙◌, subst, arith}
+use Rattle.std.proofs.Common.{◌≡◌, ℕ, zero, suc, None, replicate, ◌+◌, ◌≤◌, ◌^◌, List, [], ◌++◌, refl, sym, ap, ◌∙◌, subst, arith}
 use Rattle.turn_machine.specs.Relays.{Setup, Rules, State}
 use Rattle.turn_machine.specs.Events.{Event, Output}
 use Rattle.turn_machine.specs.Lists.{times}
 use Rattle.turn_machine.specs.Times.{at, over_at}
 use Rattle.turn_machine.specs.Steps.{Step, keeping, happens, step}
 use Rattle.turn_relays.specs.Relayed.{Table, state_of}
+use Rattle.turn_relays.specs.Following.{listed}
 use Rattle.turn_allocations.specs.declared.limits.Limits.{Limits}
 use Rattle.turn_allocations.specs.Clients.{Becomes}
 use Rattle.turn_allocations.specs.Ending.{Numbers}
@@ -43,3 +44,9 @@ stepped setup rules limits ended t swept new before mid after now event output s
   limits_are = refl;
   slow = let next = ap (λ (s : State). s.next) sweeps.state_is in omega (arith, next, slow);
 }
+
+-- ---- A new one
+
+pub none_listed : (n : ℕ) → listed (replicate n None) ≡ []
+none_listed zero = refl
+none_listed (suc n) = none_listed n

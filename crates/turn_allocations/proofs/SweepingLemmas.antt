@@ -203,8 +203,7 @@ not_twice p (a ∷ rs) = by_test (p a) (not_twice p rs)
 pub expired_left : (clock : ℕ) (t new : Table) → t.clock ≡ clock → (before after : Numbers) → IsDone (closing (λ a. not (is_live clock a)) nothing (state_of t)) t new before after
     → Becomes t new (at clock (state_of t)) × Appends before after (over_at clock (state_of t))
 expired_left clock t new same before after done =
-    let now : max t.clock clock ≡ clock = omega (arith, same) in
-    (
+    let now : max t.clock clock ≡ clock = omega (arith, same) in (
       record {
         state_is =
             done.becomes.state_is

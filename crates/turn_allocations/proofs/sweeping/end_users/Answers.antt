@@ -31,9 +31,8 @@ users-smaller g c =
 pub users-preserved : goal.users-preserved
 users-preserved g c =
     let it = c.in-Some.ensures.some in
-    let pushed = subst (λ (o : Option Relay). MatchOption o (c.end_at.new.ended ≡ c.users.ended) (λ r. c.end_at.new.ended ≡ record c.users.ended { numbers = c.users.ended.numbers ++ r.number ∷ [] })) it.1 c.end_at.ensures.ended in
-    (
+    let pushed = subst (λ (o : Option Relay). MatchOption o (c.end_at.new.ended ≡ c.users.ended) (λ r. c.end_at.new.ended ≡ record c.users.ended { numbers = c.users.ended.numbers ++ r.number ∷ [] })) it.1 c.end_at.ensures.ended in (
       ending_goes_on c.list_follows_slots.ensures c.lists_have_slots.ensures (is_users (user_number c.args.user)) c.args.relays.now c.args.ended.now c.users.relays c.users.ended c.users.invariant.0 c.numbers_are_distinct.ensures
-      c.in-Some.slot it.0 it.1 it.2 c.end_at.new.relays c.end_at.ensures.slots c.end_at.new.ended pushed,
+          c.in-Some.slot it.0 it.1 it.2 c.end_at.new.relays c.end_at.ensures.slots c.end_at.new.ended pushed,
       λ sound. c.end_at.ensures.sound (c.users.invariant.1 sound),
     )
