@@ -147,7 +147,7 @@ impl<const P: usize, const C: usize> Allocations<P, C> {
     /// and then the answer is what the client has; 440 if the server has none of the families that it asks
     /// for; 486 if the user has as many relayed addresses as one may have; 508 if there is no room, or no
     /// socket is ready for a family that the server has, or numbers are used up, after at least 2^38
-    /// allocations. Else it gets all that can be had of what it asks for.
+    /// allocations. Else it gets each relayed address that it asks for and can have.
     ///
     /// All others: 437 if the client has no allocation, and 441 if it is another user's.
     ///
