@@ -17,7 +17,9 @@ use Rattle.turn_allocations.specs.declared.limits.Limits.{Limits}
 use Rattle.turn_allocations.specs.Clients.{Becomes}
 use Rattle.turn_allocations.specs.Ending.{Numbers}
 use Rattle.turn_allocations.specs.Serving.{Appends, IsDone}
+use Rattle.turn_allocations.specs.Calls.{IsAfter, CallsAreARun}
 use Rattle.turn_allocations.specs.Tables.{Serving, IsStep, IsNextEnd}
+use Rattle.turn_machine.specs.Runs.{Timed, run}
 use Rattle.turn_allocations.proofs.EndingLemmas.{times_append}
 
 -- nothing changes
@@ -96,3 +98,21 @@ pub next_answer : ListFollowsSlots → ListHasSlots → (t : Table) (result : Op
     → MatchOption result ((state_of t).relays ≡ []) (λ due. IsNextEnd due (state_of t).relays)
 next_answer follows has t None some none = none_left follows t none
 next_answer follows has t (Some due) some none = next_end has t due some
+
+-- ---- Calls in a row
+
+run_state : (setup : Setup) (limits : Limits) (events : List Timed) (s : Serving) → IsAfter setup limits events s → s.state ≡ run setup events
+run_state setup limits [] s is = ap (λ (x : Serving). x.state) is
+run_state setup limits (timed ∷ earlier) s is =
+    is.3.state_is ∙ ap (λ (x : State). (step setup timed.rules x timed.now timed.event).state) (run_state setup limits earlier is.0 is.2)
+
+pub calls_run : CallsAreARun
+calls_run = record {
+  state = run_state;
+  next = λ setup limits events timed old new output after one.
+      let same = run_state setup limits events old after in
+      record {
+        output_is = one.output_is ∙ ap (λ (x : State). (step setup timed.rules x timed.now timed.event).output) same;
+        ended_are = λ n. one.ended_are n ∙ ap (λ (x : State). times n (step setup timed.rules x timed.now timed.event).closes) same;
+      };
+}
