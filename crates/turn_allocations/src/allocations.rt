@@ -131,6 +131,15 @@ impl<const P: usize, const C: usize> Allocations<P, C> {
         self.limits
     }
 
+    /// Returns a number that is above those of all relayed addresses opened so far, and at most that of the
+    /// next: a relayed address in an answer is new, and uses the socket that was ready, if and only if its
+    /// number is not below what this returned before the call.
+    pub fn next_number(&self) -> u64
+        ensures { result ≡ self.now.state.next }
+    {
+        self.relays.next_number()
+    }
+
     /// Returns how many relayed addresses there are, with those that have expired since the last call.
     pub fn len(&self) -> usize
         ensures { result ≡ length self.now.state.relays }
