@@ -77,7 +77,7 @@ pub record OpensOf (setup : Setup) (tuple : FiveTuple) (user id until family : �
   pub clock : new.clock ≡ old.clock
   pub openings : new.openings ≤ old.openings + 1
 
--- all that can be had, for so many seconds
+-- each want that can be met, for so many seconds
 pub record Grants (setup : Setup) (tuple : FiveTuple) (user id lifetime : ℕ) (wants : Families Want)
     (old new : Table) (answer : Answer) : Type 0 where
   pub becomes : Becomes old new (allocates setup tuple user id lifetime

@@ -16,6 +16,7 @@ abbrev pub setup_of : Limits → (permissions channels : ℕ) → Setup
 setup_of limits permissions channels = record {
   most_relays = limits.relays;
   most_of_user = limits.of_user;
+  most_reservations = limits.reservations;
   most_permissions = permissions;
   most_channels = channels;
   greatest_lifetime = limits.greatest_lifetime;

@@ -1,6 +1,7 @@
 -- What callers see of a server's allocations, and what each call does.
-use Rattle.std.specs.Prelude.{◌≡◌, ℕ, ◌+◌, ◌≤◌, ◌^◌, List}
-use Rattle.turn_machine.specs.Relays.{Setup, Rules, State}
+use Rattle.std.specs.Prelude.{◌≡◌, ℕ, ◌+◌, ◌≤◌, ◌^◌, ◌==◌, true, List}
+use Rattle.std.specs.List.{AllByRecursion, list_any}
+use Rattle.turn_machine.specs.Relays.{Relay, Setup, Rules, State}
 use Rattle.turn_machine.specs.Events.{Event, Output}
 use Rattle.turn_machine.specs.Steps.{step}
 use Rattle.turn_allocations.specs.declared.limits.Limits.{Limits}
@@ -21,3 +22,8 @@ pub record IsStep (setup : Setup) (rules : Rules) (old : Serving) (now : ℕ) (e
   pub ended_are : AreSame new.ended (step setup rules old.state now event).closes
   pub limits_are : new.limits ≡ old.limits
   pub slow : new.state.next ≤ old.state.next + 2 ^ 26
+
+-- one of them expires at this moment, and none before
+pub record IsNextEnd (due : ℕ) (relays : List Relay) : Type 0 where
+  pub some : list_any (λ r. r.until == due) relays ≡ true
+  pub least : AllByRecursion (λ r. due ≤ r.until) relays

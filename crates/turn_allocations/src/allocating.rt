@@ -295,7 +295,7 @@ fn left<const P: usize, const C: usize>(relays: &Relays<P, C>, client: &Client) 
     }
 }
 
-/// Opens what can be had of what a request asks for, and answers with what the client now has.
+/// Opens each relayed address that a request asks for and that the user can have, and answers with what the client now has.
 fn grant<const P: usize, const C: usize>(
     relays: &mut Relays<P, C>,
     limits: &Limits,

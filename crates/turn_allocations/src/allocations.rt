@@ -1,8 +1,8 @@
 //! The allocations of a server.
 
-ghost use Rattle.std.specs.Prelude.{◌≡◌, ◌<◌, ◌≤◌, ◌^◌, ℕ, List, Bool, [], IfOk, MatchOption, IfSome, IfNone};
+ghost use Rattle.std.specs.Prelude.{◌≡◌, ◌<◌, ◌≤◌, ◌^◌, ℕ, List, [], length, count_by, IfOk, MatchOption};
 ghost use Rattle.turn_slots.specs.Users.{user_number};
-ghost use Rattle.turn_machine.specs.Relays.{Rules};
+ghost use Rattle.turn_machine.specs.Relays.{Rules, is_users};
 ghost use Rattle.turn_machine.specs.Events.{Icmp, asks, sends, sends_on, arrives, bounces, ends, ends_user, ticks, answers, nothing};
 ghost use Rattle.turn_machine.specs.Times.{at};
 ghost use Rattle.turn_machine.specs.Runs.{initial_state};
@@ -10,7 +10,7 @@ ghost use Rattle.turn_allocations.specs.Answers.{answer_of};
 ghost use Rattle.turn_allocations.specs.Outputs.{sending, receiving, bouncing};
 ghost use Rattle.turn_allocations.specs.Requests.{asked};
 ghost use Rattle.turn_allocations.specs.Setups.{rules_of, setup_of};
-ghost use Rattle.turn_allocations.specs.Tables.{IsStep};
+ghost use Rattle.turn_allocations.specs.Tables.{IsStep, IsNextEnd};
 
 use crate::answer::Answer;
 use crate::ended::Ended;
@@ -23,7 +23,7 @@ use std::alloc::{AllocError, Global};
 use std::marker::Model;
 use stun_endpoints::{Endpoint, FiveTuple};
 use turn_peers::PeerPolicy;
-use turn_relays::Relays;
+use turn_relays::{Relays, list_follows_slots, lists_have_slots};
 use turn_slots::UserId;
 
 /// The allocations of a TURN server (RFC 8656), each relayed address with at most `P` permissions and `C`
@@ -65,7 +65,7 @@ use turn_slots::UserId;
 /// assert!(rt; to.number == number && to.peer == peer);
 ///
 /// allocations.poll(600_000_000_000);
-/// assert_eq!(rt; allocations.ended(), [number]);
+/// assert_eq!(rt; allocations.ended(), [number].as_slice());
 /// ```
 #[derive(Drop)]
 pub struct Allocations<const P: usize, const C: usize> {
@@ -131,6 +131,41 @@ impl<const P: usize, const C: usize> Allocations<P, C> {
         self.limits
     }
 
+    /// Returns a number that is above those of all relayed addresses opened so far, and at most that of the
+    /// next: a relayed address in an answer is new, and uses the socket that was ready, if and only if its
+    /// number is not below what this returned before the call.
+    pub fn next_number(&self) -> u64
+        ensures { result ≡ self.now.state.next }
+    {
+        self.relays.next_number()
+    }
+
+    /// Returns how many relayed addresses there are, with those that have expired since the last call.
+    pub fn len(&self) -> usize
+        ensures { result ≡ length self.now.state.relays }
+    {
+        self.relays.len()
+    }
+
+    /// Returns how many relayed addresses a user has, with those that have expired since the last call. An
+    /// allocation with an address of each family counts as two.
+    pub fn count_by_user(&self, user: UserId) -> usize
+        ensures { result ≡ count_by (is_users (user_number user)) self.now.state.relays }
+    {
+        self.relays.count_by_user(user)
+    }
+
+    /// Returns when the next relayed address expires, in nanoseconds of the caller's clock: a poll before
+    /// ends nothing. `None` if there is no relayed address.
+    pub fn next_due(&self) -> Option<u128>
+        ensures { MatchOption result (self.now.state.relays ≡ [])
+            (λ due. IsNextEnd due self.now.state.relays) }
+    {
+        list_follows_slots();
+        lists_have_slots();
+        self.relays.next_due()
+    }
+
     /// Borrows the numbers of the sockets that the last call ended, in no particular order. The caller
     /// closes them.
     pub fn ended(&self) -> &[u64]
@@ -147,7 +182,7 @@ impl<const P: usize, const C: usize> Allocations<P, C> {
     /// and then the answer is what the client has; 440 if the server has none of the families that it asks
     /// for; 486 if the user has as many relayed addresses as one may have; 508 if there is no room, or no
     /// socket is ready for a family that the server has, or numbers are used up, after at least 2^38
-    /// allocations. Else it gets all that can be had of what it asks for.
+    /// allocations. Else it gets each relayed address that it asks for and can have.
     ///
     /// All others: 437 if the client has no allocation, and 441 if it is another user's.
     ///

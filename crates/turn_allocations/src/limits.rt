@@ -11,6 +11,10 @@ pub struct Limits {
     /// The most relayed addresses of one user: an Allocate request beyond it is refused with 486. An
     /// allocation with an address of each family counts as two.
     pub of_user: u32,
+    /// The most sockets that are reserved at a time, for EVEN-PORT with its R bit (RFC 8656, section 7.2): an
+    /// Allocate request beyond it is refused with 508. 0 reserves none. A user never has more than `of_user`
+    /// of them. [`Allocations`](crate::Allocations) alone reserves none.
+    pub reservations: u32,
     /// The greatest lifetime in seconds: RFC 8656, section 7.2, recommends at most 3600. A value below 600
     /// counts as 600.
     pub greatest_lifetime: u32,
@@ -28,14 +32,15 @@ pub struct Limits {
     pub old_channels: bool,
 }
 
-/// 4,096 relayed addresses of either family, at most 64 of one user, for at most an hour, and the rules of
-/// RFC 8656, without DONT-FRAGMENT and ICMP.
+/// 4,096 relayed addresses of either family, at most 64 of one user, for at most an hour, 64 reserved sockets,
+/// and the rules of RFC 8656, without DONT-FRAGMENT and ICMP.
 impl Default for Limits {
     ghost use Rattle.std.specs.Prelude.{◌≡◌, true, false};
 
     ghost is_default = { λ limits. limits ≡ record {
       relays = 4096;
       of_user = 64;
+      reservations = 64;
       greatest_lifetime = 3600;
       families = record { ipv4 = true; ipv6 = true };
       dont_fragment = false;
@@ -48,6 +53,7 @@ impl Default for Limits {
         Limits {
             relays: 4096,
             of_user: 64,
+            reservations: 64,
             greatest_lifetime: 3600,
             families: Families {
                 ipv4: true,

@@ -1,8 +1,9 @@
 -- Reservations: a run with them is a run of the machine; a token lasts 30 seconds and serves once.
 use Rattle.std.proofs.Common.{inr, ◌≡◌, ℕ, ◌+◌, ◌<◌, ◌≤◌, Bool, true, false, not, cond, List, [], ◌∷◌, filter, find, Option, None, Some, refl, sym, ap, ◌∙◌, subst, eqb-true, eq-eqb, ltb-true, zero-le, arith}
 use Rattle.std.specs.Option.{option_map_or}
-use Rattle.std.specs.Prelude.{◌==◌, ◌&&◌, max, count_by, nat_lt, is_some}
+use Rattle.std.specs.Prelude.{◌==◌, ◌&&◌, max, count_by, length, nat_lt, is_some}
 use Rattle.std.proofs.lemmas.Bool.{cond_both, cond-true, cond-false, and_parts, and_from, lt-ltb}
+use Rattle.std.proofs.lemmas.List.Sums.{length-filter, count_by-le-length}
 use Rattle.stun_endpoints.specs.declared.endpoints.FiveTuple.{FiveTuple}
 use Rattle.stun_endpoints.specs.Endpoints.{is_tuple}
 use Rattle.turn_machine.specs.Relays.{seconds, Setup, Rules, State, is_of, is_owned}
@@ -16,7 +17,7 @@ use Rattle.turn_machine.specs.Examples.{outputs}
 use Rattle.turn_machine.specs.Granting.{IsFit, Has, given_of}
 use Rattle.turn_machine.specs.Refusals.{IsAgain}
 use Rattle.turn_machine.specs.Reservations.{live_at, IsBelowQuota, held_for, made_by, IsReserved}
-use Rattle.turn_machine.specs.Reserving.{Reservation, OuterState, Outer, plain, reserves, claims, is_held, held_at, is_users_held, is_token, can_reserve, pair_want, reserved_want, no_want, inner, is_success, is_opening, reservation, held_after, is_reserved_by, token_for, outer_step, OuterTimed, outer_run, inner_run, outer_outputs}
+use Rattle.turn_machine.specs.Reserving.{Reservation, OuterState, Outer, plain, reserves, claims, is_held, held_at, is_users_held, is_token, has_place, can_reserve, pair_want, reserved_want, no_want, inner, is_success, is_opening, reservation, held_after, is_reserved_by, token_for, outer_step, OuterTimed, outer_run, inner_run, outer_outputs}
 use Rattle.turn_machine.proofs.AddressesLemmas.{tuple_is_itself}
 use Rattle.turn_machine.proofs.ListsLemmas.{none_any, some_any, some_map, left_false, right_false, count_cons, count_filter}
 use Rattle.turn_machine.proofs.AgainLemmas.{is_again_of}
@@ -64,7 +65,8 @@ after_few setup state (reserves tuple user id lifetime want next token) output h
     cond_both (is_opening tuple state output && can_reserve setup user next held) (reservation state.clock (reserves tuple user id lifetime want next token) next held) held (IsFew setup)
     (λ both.
     let can = (and_parts (is_opening tuple state output) (can_reserve setup user next held) both).1 in
-    reserved_few setup state.clock tuple user id lifetime want next token held (and_parts (is_some next) (nat_lt (count_by (is_users_held user) held) setup.most_of_user) can).1 few) (λ _. few)
+    let place = (and_parts (is_some next) (has_place setup user held) can).1 in
+    reserved_few setup state.clock tuple user id lifetime want next token held (and_parts (nat_lt (count_by (is_users_held user) held) setup.most_of_user) (nat_lt (length held) setup.most_reservations) place).0 few) (λ _. few)
 after_few setup state (claims tuple user id lifetime token) output held few =
     cond_both (is_opening tuple state output) (filter (λ r. not (is_token token r)) held) held (IsFew setup) (λ _. filtered_few setup (λ r. not (is_token token r)) held few) (λ _. few)
 
@@ -73,6 +75,36 @@ held_few setup [] user = zero-le
 held_few setup (t ∷ events) user =
     let h = outer_run setup events in
     after_few setup (at t.now h.state) t.outer (step setup t.rules h.state t.now (inner setup (at t.now h.state) (held_at t.now h) t.outer)).output (held_at t.now h) (filtered_few setup (is_held (max h.state.clock t.now)) h.held (held_few setup events)) user
+
+filtered_shorter : (keep : Reservation → Bool) (held : List Reservation) → length (filter keep held) ≤ length held
+filtered_shorter keep held = let is = length-filter keep held in let less = count_by-le-length keep held in omega (arith, is, less)
+
+reserved_bounded : (most now : ℕ) (tuple : FiveTuple) (user id : ℕ) (lifetime : Option ℕ) (want : Want) (next : Option Offer) (token : ℕ) (held : List Reservation) → length held < most → length held ≤ most
+    → length (reservation now (reserves tuple user id lifetime want next token) next held) ≤ most
+reserved_bounded most now tuple user id lifetime want None token held room short = short
+reserved_bounded most now tuple user id lifetime want (Some offer) token held room short = room
+
+-- the places are enough
+pub after_bounded : (setup : Setup) (state : State) (outer : Outer) (output : Output) (held : List Reservation) → length held ≤ setup.most_reservations → length (held_after setup state outer output held) ≤ setup.most_reservations
+after_bounded setup state (plain event) output held short = short
+after_bounded setup state (reserves tuple user id lifetime want next token) output held short =
+    cond_both (is_opening tuple state output && can_reserve setup user next held) (reservation state.clock (reserves tuple user id lifetime want next token) next held) held (λ (l : List Reservation). length l ≤ setup.most_reservations)
+    (λ both.
+    let can = (and_parts (is_opening tuple state output) (can_reserve setup user next held) both).1 in
+    let place = (and_parts (is_some next) (has_place setup user held) can).1 in
+    let room = (and_parts (nat_lt (count_by (is_users_held user) held) setup.most_of_user) (nat_lt (length held) setup.most_reservations) place).1 in
+    reserved_bounded setup.most_reservations state.clock tuple user id lifetime want next token held (ltb-true (length held) setup.most_reservations room) short) (λ _. short)
+after_bounded setup state (claims tuple user id lifetime token) output held short =
+    cond_both (is_opening tuple state output) (filter (λ r. not (is_token token r)) held) held (λ (l : List Reservation). length l ≤ setup.most_reservations)
+    (λ _. let fewer = filtered_shorter (λ r. not (is_token token r)) held in omega (arith, fewer, short)) (λ _. short)
+
+pub held_bounded : (setup : Setup) (events : List OuterTimed) → length (outer_run setup events).held ≤ setup.most_reservations
+held_bounded setup [] = zero-le
+held_bounded setup (t ∷ events) =
+    let h = outer_run setup events in
+    let fewer = filtered_shorter (is_held (max h.state.clock t.now)) h.held in
+    let short = held_bounded setup events in
+    after_bounded setup (at t.now h.state) t.outer (step setup t.rules h.state t.now (inner setup (at t.now h.state) (held_at t.now h) t.outer)).output (held_at t.now h) (omega (arith, fewer, short))
 
 -- ---- What is fit is reserved, for 30 seconds
 
@@ -84,12 +116,13 @@ OneAnswer setup tuple user id lifetime want offer s =
 pub reserved : (setup : Setup) (rules : Rules) (h : OuterState) (now : ℕ) (tuple : FiveTuple) (user id : ℕ) (lifetime : Option ℕ) (want : Want) (offer next : Offer) (token : ℕ)
     → let s = at now h.state in let held = live_at s.clock h.held in
     let done = outer_step setup rules h now (reserves tuple user id lifetime want (Some next) token) in
-    IsFit setup tuple user want offer s → IsBelowQuota setup user held
+    IsFit setup tuple user want offer s → IsBelowQuota setup user held → length held < setup.most_reservations
     → (r : Reservation) × IsReserved s.clock tuple user id want next token r × (done.holding.held ≡ r ∷ held) × (done.token ≡ Some token) × (done.step ≡ step setup rules h.state now (asks tuple user (allocate id lifetime (want ∷ []))))
-reserved setup rules h now tuple user id lifetime want offer next token fit room =
+reserved setup rules h now tuple user id lifetime want offer next token fit room places =
     let s = at now h.state in
     let held = held_at now h in
-    let can : can_reserve setup user (Some next) held ≡ true = lt-ltb (count_by (is_users_held user) held) setup.most_of_user room in
+    let can : can_reserve setup user (Some next) held ≡ true =
+    and_from (nat_lt (count_by (is_users_held user) held) setup.most_of_user) (nat_lt (length held) setup.most_reservations) (lt-ltb (count_by (is_users_held user) held) setup.most_of_user room) (lt-ltb (length held) setup.most_reservations places) in
     let want_is : pair_want setup user want (Some next) held ≡ want = ap (λ (o : Option Offer). record { family = want.family; ready = o }) (cond-true (can_reserve setup user (Some next) held) want.ready None can) in
     let event = inner setup s held (reserves tuple user id lifetime want (Some next) token) in
     let same : step setup rules h.state now event ≡ step setup rules h.state now (asks tuple user (allocate id lifetime (want ∷ []))) = ap (λ (w : Want). step setup rules h.state now (asks tuple user (allocate id lifetime (w ∷ [])))) want_is in

@@ -19,11 +19,12 @@ outputs_of setup cases = reverse (outputs (history setup (reverse (map (λ c. c.
 abbrev pub expected_of : List Case → List Output
 expected_of cases = map (λ c. c.reply) cases
 
--- Three relayed addresses, two of them for one user; no DF bit and no ICMP
+-- Three relayed addresses, two of them for one user; three reservations; no DF bit and no ICMP
 abbrev pub plain_setup : Setup
 plain_setup = record {
   most_relays = 3;
   most_of_user = 2;
+  most_reservations = 3;
   most_permissions = 2;
   most_channels = 2;
   greatest_lifetime = 1000;
@@ -374,7 +375,13 @@ held_cases =
     ∷ held_on 9 (ends_all 12) (answers (client 12) (refreshed 0)) None
     ∷ held_on 9 (reserves (client 12) alice 6 None (ipv4_want 60) (pair_with 61) 81)
     (no 12 508) None
-    ∷ held_before 36 (claims (client 12) alice 7 None 79) (gets 12 (ipv4_given 4 41 ∷ []) 600)
+    ∷ held_on 9 (reserves (client 13) bob 2 None (ipv4_want 70) (pair_with 71) 82)
+    (gets 13 (ipv4_given 4 70 ∷ []) 600) (Some 82)
+    ∷ held_on 10 (plain (asks (client 13) bob (refresh None (Some 0))))
+    (answers (client 13) (refreshed 0)) None
+    ∷ held_on 10 (reserves (client 13) bob 3 None (ipv4_want 72) (pair_with 73) 83)
+    (no 13 508) None
+    ∷ held_before 36 (claims (client 12) alice 7 None 79) (gets 12 (ipv4_given 5 41 ∷ []) 600)
     ∷ held_on 37 (ends_all 12) (answers (client 12) (refreshed 0)) None
     ∷ held_on 38 (claims (client 12) alice 8 None 80) (no 12 508) None
     ∷ []

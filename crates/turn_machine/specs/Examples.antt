@@ -19,6 +19,7 @@ abbrev pub small_setup : Setup
 small_setup = record {
   most_relays = 3;
   most_of_user = 1;
+  most_reservations = 2;
   most_permissions = 2;
   most_channels = 2;
   greatest_lifetime = 3600;

@@ -27,13 +27,14 @@ pub record Relay : Type 0 where
   pub channels : List Channel
 
 -- Set once, by the caller: the most relayed addresses, in all and for one user; the most
--- permissions and channels of each; the greatest lifetime, in seconds; the last channel number,
--- which is 0x4FFF, or 0x7FFF to serve clients of RFC 5766; the families that the server supports;
--- whether it can set the DF bit, whether it relays ICMP, and whether the permission of a ChannelBind
--- request lasts as long as the channel
+-- reservations; the most permissions and channels of each relayed address; the greatest lifetime, in
+-- seconds; the last channel number, which is 0x4FFF, or 0x7FFF to serve clients of RFC 5766; the
+-- families that the server supports; whether it can set the DF bit, whether it relays ICMP, and
+-- whether the permission of a ChannelBind request lasts as long as the channel
 pub record Setup : Type 0 where
   pub most_relays : ℕ
   pub most_of_user : ℕ
+  pub most_reservations : ℕ
   pub most_permissions : ℕ
   pub most_channels : ℕ
   pub greatest_lifetime : ℕ

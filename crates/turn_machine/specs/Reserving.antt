@@ -3,7 +3,7 @@
 -- with a socket if the pair of ports or the reserved socket is there, without one otherwise.
 -- (EVEN-PORT without the bit only limits which socket the caller offers.) A server without this
 -- layer treats both attributes as unknown.
-use Rattle.std.specs.Prelude.{ℕ, ◌+◌, Bool, true, false, not, ◌&&◌, ◌==◌, if◌then◌else◌, List, [], ◌∷◌, map, filter, find, count_by, max, nat_lt, Option, None, Some, is_some}
+use Rattle.std.specs.Prelude.{ℕ, ◌+◌, Bool, true, false, not, ◌&&◌, ◌==◌, if◌then◌else◌, List, [], ◌∷◌, map, filter, find, count_by, length, max, nat_lt, Option, None, Some, is_some}
 use Rattle.std.specs.Option.{option_map_or}
 use Rattle.stun_endpoints.specs.declared.endpoints.FiveTuple.{FiveTuple}
 use Rattle.stun_endpoints.specs.Endpoints.{is_tuple}
@@ -53,11 +53,16 @@ is_claim user token r = (r.token == token) && is_users_held user r
 abbrev pub is_token : (token : ℕ) → Reservation → Bool
 is_token token r = r.token == token
 
--- The pair of ports is there, and the user has fewer reservations than the quota. Without that
--- limit a user could hold any number of sockets by allocating in a loop
+-- The user has fewer reservations than the quota, and all users together have fewer than the most.
+-- Without these limits users could hold any number of sockets by allocating in a loop
+abbrev pub has_place : Setup → (user : ℕ) → List Reservation → Bool
+has_place setup user held =
+    nat_lt (count_by (is_users_held user) held) setup.most_of_user
+    && nat_lt (length held) setup.most_reservations
+
+-- The pair of ports is there, and a place for the reservation
 abbrev pub can_reserve : Setup → (user : ℕ) → (next : Option Offer) → List Reservation → Bool
-can_reserve setup user next held =
-    is_some next && nat_lt (count_by (is_users_held user) held) setup.most_of_user
+can_reserve setup user next held = is_some next && has_place setup user held
 
 abbrev pub pair_want : Setup → (user : ℕ) → Want → (next : Option Offer) → List Reservation → Want
 pair_want setup user want next held = record {

@@ -38,7 +38,8 @@
 //!   and its permission 300, so a client that refreshes only the channel stops receiving after 300 seconds.
 //!   With `channel_permits`, which departs from the RFC, the permission of a ChannelBind request lasts 600
 //!   seconds too, unless a CreatePermission request for the same IP address sets it to 300.
-//! - A token serves only the user that reserved it, and a user has at most as many reservations as its quota.
+//! - A token serves only the user that reserved it. A user has at most as many reservations as its quota, and
+//!   all users together have at most `most_reservations`. A request beyond either bound is refused with 508.
 //! - Numbers of sockets only grow, so that a late datagram never reaches another client.
 //!
 //! # The words of the laws
@@ -463,8 +464,8 @@ pub fn sessions_go_so()
 /// allocation reserves or uses up a reservation: a refused request reserves nothing and leaves all tokens
 /// valid, and so do a request that comes again and all other events. A request that comes again gets the
 /// token of the first response, as long as the reservation is live. A user never has more reservations than
-/// the quota, and the token of each reservation that expires is reported. It is left to the caller that
-/// tokens can't be guessed.
+/// the quota, nor do all users together have more than the most that the setup allows. The token of each
+/// reservation that expires is reported. It is left to the caller that tokens can't be guessed.
 pub fn reservations_are_kept()
     ensures state { (setup : Setup) (events : List OuterTimed)
         → (outer_run setup events).state ≡ run setup (inner_run setup events) }
@@ -472,12 +473,15 @@ pub fn reservations_are_kept()
         → outer_outputs setup events ≡ outputs (history setup (inner_run setup events)) }
     ensures few { (setup : Setup) (events : List OuterTimed) (user : ℕ)
         → count_of user (outer_run setup events).held ≤ setup.most_of_user }
+    ensures bounded { (setup : Setup) (events : List OuterTimed)
+        → length (outer_run setup events).held ≤ setup.most_reservations }
     ensures reserved { (setup : Setup) (rules : Rules) (h : OuterState) (now : ℕ)
         (tuple : FiveTuple) (user id : ℕ) (lifetime : Option ℕ) (want : Want) (offer next : Offer)
         (token : ℕ) → let s = at now h.state in let held = live_at s.clock h.held in
         let done = outer_step setup rules h now
         (reserves tuple user id lifetime want (Some next) token) in
         IsFit setup tuple user want offer s → IsBelowQuota setup user held
+        → length held < setup.most_reservations
         → (r : Reservation) × IsReserved s.clock tuple user id want next token r
         × (done.holding.held ≡ r ∷ held) × (done.token ≡ Some token)
         × (done.step

@@ -1,5 +1,5 @@
 use Rattle.std.proofs.Common.{refl}
-use Rattle.turn_machine.proofs.ReservingLemmas.{claimed, claimed_again, held_few, not_claimed, outputs_are, refused_reserve_nothing, repeated, reserved, state_is}
+use Rattle.turn_machine.proofs.ReservingLemmas.{claimed, claimed_again, held_bounded, held_few, not_claimed, outputs_are, refused_reserve_nothing, repeated, reserved, state_is}
 use Rattle.turn_machine.proofs.reservations_are_kept.Goals as goal
 
 pub returns-clause-state : goal.returns-clause-state
@@ -10,6 +10,9 @@ returns-clause-outputs c = outputs_are
 
 pub returns-clause-few : goal.returns-clause-few
 returns-clause-few c = held_few
+
+pub returns-clause-bounded : goal.returns-clause-bounded
+returns-clause-bounded c = held_bounded
 
 pub returns-clause-reserved : goal.returns-clause-reserved
 returns-clause-reserved c = reserved
