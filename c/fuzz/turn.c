@@ -146,6 +146,8 @@ static void take_message(source *from, unsigned kind, const stun_types_address *
         if (kind == COUNT(methods) - 1) {
             if (how / 16 == 0) append(&message, 0x0006, "user", 4);
             if (how / 16 == 1) finger(&message);
+            if (how / 16 == 2) append(&message, 0x001A, "", 0);
+            if (how / 16 >= 8) take_credentials(from, client);
             return;
         }
         take_asked(from, methods[kind]);

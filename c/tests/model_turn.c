@@ -456,14 +456,6 @@ static void indication(model_turn *turn, uint64_t now, const stun_types_five_tup
     if (there != NULL) relay(turn, there, &peer, data->value_at, data->length, done);
 }
 
-/* The code of the reply to a Binding request. */
-static uint32_t binding_code(const view *it) {
-    size_t i;
-    for (i = 0; i < it->shown.count; i++)
-        if (it->shown.all[i].type < 0x8000) return 420;
-    return 0;
-}
-
 void model_turn_client(model_turn *turn, uint64_t now, const stun_types_five_tuple *from,
                        const stun_types_turn_ready *ready, const uint8_t *bytes, size_t length,
                        model_turn_done *done) {
@@ -485,7 +477,7 @@ void model_turn_client(model_turn *turn, uint64_t now, const stun_types_five_tup
     if ((type & 0x0110) != 0) return;
     if (method == STUN_TYPES_METHOD_BINDING) {
         done->action.kind = STUN_TYPES_TURN_RESPONSE;
-        done->action.code = binding_code(&it);
+        done->action.code = is_comprehended(&it) ? 0 : 420;
     }
     if (method == STUN_TYPES_METHOD_ALLOCATE || method == STUN_TYPES_METHOD_REFRESH
         || method == STUN_TYPES_METHOD_CREATE_PERMISSION
