@@ -438,7 +438,7 @@ static void channel_data(model_turn *turn, uint64_t now, const stun_types_five_t
     size_t data;
     if (length < 4) return;
     data = model_number(bytes + 2);
-    if (length < 4 + data || length > 4 + model_padded(data)) return;
+    if (length < 4 + data) return;
     advance(turn, now);
     there = allocation_of(turn, from);
     channel = there == NULL ? NULL : channel_of(there, model_number(bytes));

@@ -60,8 +60,7 @@ class Site(Server):
 
     def channel_data(self, client, octets):
         length = int.from_bytes(octets[2:4])
-        most = 4 + length + -length % 4
-        if len(octets) < 4 or not 4 + length <= len(octets) <= most:
+        if len(octets) < 4 or len(octets) < 4 + length:
             return self.note("cut-channel-data", "dropped")
         return self.channel(client, int.from_bytes(octets[:2]), octets[4 : 4 + length])
 

@@ -323,8 +323,8 @@ impl<const P: usize, const C: usize> TurnServer<P, C> {
     /// The first of these that applies:
     ///
     /// - A first byte of 0x40 to 0x4F, or to 0x7F with `old_channels`, begins a ChannelData message. Its
-    ///   data goes to the peer that the channel is bound to. It is dropped if it is cut off or longer
-    ///   than its padding (RFC 8656, section 12.6).
+    ///   data goes to the peer that the channel is bound to. It is dropped if it is shorter than its
+    ///   length field says (RFC 8656, section 12.6). What follows the data, such as padding, is ignored.
     /// - What doesn't parse as a message is dropped, and so is a response, an indication other than Send,
     ///   and a request of another method than Binding, Allocate, Refresh, CreatePermission and
     ///   ChannelBind (RFC 8489, section 6.3).
