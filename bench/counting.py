@@ -4,7 +4,7 @@ It proves and builds a program that makes a call many times. Its texts are in th
 and in bench/numbered.rt.txt, kept so since the gate proves each source that it finds. They are put beside copies of
 the crates in a folder, and run under valgrind's callgrind, which is needed. A number is that of a run that makes
 the call 20,000 times, less that of a run that makes none, divided by 20,000. The numbers are the same on each run
-with one kit, C library and kind of processor. Where the C library fills or copies memory by a `rep` instruction,
+with one kit, C library and kind of processor. If the C library fills or copies memory by a `rep` instruction,
 each byte counts.
 
 The exit status is 1 if a call beside 100,000 relayed addresses takes over 1.3 times the instructions that it takes
