@@ -1,4 +1,4 @@
--- Calls in a row are a run of the machine, so its laws are about them.
+-- A sequence of calls is a run of the machine, so the machine's laws apply to it.
 use Rattle.std.specs.Prelude.{◌≡◌, List, [], ◌∷◌}
 use Rattle.turn_machine.specs.Relays.{Setup}
 use Rattle.turn_machine.specs.Events.{Output}
@@ -7,7 +7,7 @@ use Rattle.turn_allocations.specs.declared.limits.Limits.{Limits}
 use Rattle.turn_allocations.specs.Ending.{AreSame}
 use Rattle.turn_allocations.specs.Tables.{Serving, IsStep}
 
--- this is what calls leave that were these events, the newest first, of a server that began with nothing
+-- a server that began without allocations is this after calls with these events, the newest first
 abbrev pub IsAfter : Setup → Limits → List Timed → Serving → Type 0
 IsAfter setup limits [] s = s ≡ record { limits = limits; state = initial_state; ended = [] }
 IsAfter setup limits (timed ∷ earlier) s =
@@ -19,7 +19,7 @@ pub record IsAt (output : Output) (s : Serving) (h : Happening) : Type 0 where
   pub output_is : output ≡ h.output
   pub ended_are : AreSame s.ended h.closes
 
--- What they leave is what the machine's run leaves, and the next call does what its next step does
+-- calls leave the state that the machine's run leaves, and the next call does what the next step does
 pub record CallsAreARun : Type 0 where
   pub state : (setup : Setup) (limits : Limits) (events : List Timed) (s : Serving)
       → IsAfter setup limits events s → s.state ≡ run setup events

@@ -7,14 +7,14 @@ use Rattle.turn_machine.specs.Steps.{step}
 use Rattle.turn_allocations.specs.declared.limits.Limits.{Limits}
 use Rattle.turn_allocations.specs.Ending.{AreSame}
 
--- the machine's state, and the numbers of the sockets that the last call ended
+-- the limits, the machine's state, and the numbers of the sockets that the last call ended
 pub record Serving : Type 0 where
   pub limits : Limits
   pub state : State
   pub ended : List ℕ
 
--- A call is a step of the machine with this output. The numbers that end are in any order. Those that
--- are given grow slowly, so that they last
+-- A call is a step of the machine with this output. The numbers of the sockets that end are in any order. The
+-- next number grows by at most 2^26, so numbers last for at least 2^38 calls
 pub record IsStep (setup : Setup) (rules : Rules) (old : Serving) (now : ℕ) (event : Event)
     (output : Output) (new : Serving) : Type 0 where
   pub state_is : new.state ≡ (step setup rules old.state now event).state
