@@ -1,5 +1,5 @@
 -- The numbers of the sockets that a call closes.
-use Rattle.std.specs.Prelude.{◌≡◌, ℕ, ◌+◌, List}
+use Rattle.std.specs.Prelude.{◌≡◌, ℕ, List}
 use Rattle.turn_machine.specs.Lists.{times}
 
 -- as many as there is room for
