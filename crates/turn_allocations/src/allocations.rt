@@ -67,7 +67,7 @@ use turn_slots::UserId;
 /// assert!(rt; to.number == number && to.peer == peer);
 ///
 /// allocations.poll(600_000_000_000);
-/// assert_eq!(rt; allocations.ended(), [number]);
+/// assert_eq!(rt; allocations.ended(), [number].as_slice());
 /// ```
 #[derive(Drop)]
 pub struct Allocations<const P: usize, const C: usize> {
