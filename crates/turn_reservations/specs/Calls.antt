@@ -1,8 +1,8 @@
 -- What callers see of a server's allocations and reservations, and what each call does.
-use Rattle.std.specs.Prelude.{◌≡◌, ℕ, ◌+◌, ◌≤◌, ◌^◌, List, Option}
+use Rattle.std.specs.Prelude.{◌≡◌, ℕ, ◌+◌, ◌≤◌, ◌^◌, not, max, List, map, filter, Option}
 use Rattle.turn_machine.specs.Relays.{Setup, Rules}
 use Rattle.turn_machine.specs.Events.{Output}
-use Rattle.turn_machine.specs.Reserving.{OuterState, Outer, outer_step}
+use Rattle.turn_machine.specs.Reserving.{OuterState, Outer, is_held, outer_step}
 use Rattle.turn_allocations.specs.declared.limits.Limits.{Limits}
 use Rattle.turn_allocations.specs.Ending.{AreSame}
 
@@ -13,6 +13,11 @@ pub record Reserving : Type 0 where
   pub holding : OuterState
   pub ended : List ℕ
   pub over : List ℕ
+
+-- the tokens of the reservations that have expired at a moment
+abbrev pub over_at : ℕ → OuterState → List ℕ
+over_at now h =
+    map (λ r. r.token) (filter (λ r. not (is_held (max h.state.clock now) r)) h.held)
 
 -- A call is a step of the machine with this output, and this token in the response. The numbers that
 -- end are in any order. Those that are given grow slowly, so that they last

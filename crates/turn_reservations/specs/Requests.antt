@@ -1,9 +1,9 @@
 -- What requests that reserve or claim ask for, in the machine's terms.
-use Rattle.std.specs.Prelude.{ℕ, Bool, List, Option, None, Some, ◌==◌, if◌then◌else◌, find, option_and_then}
+use Rattle.std.specs.Prelude.{ℕ, ◌+◌, Bool, List, ◌∷◌, Option, None, Some, ◌==◌, if◌then◌else◌, find, option_and_then}
 use Rattle.std.specs.Option.{option_map_or}
 use Rattle.stun_endpoints.specs.declared.endpoints.Endpoint.{Endpoint}
 use Rattle.stun_endpoints.specs.declared.endpoints.FiveTuple.{FiveTuple}
-use Rattle.turn_machine.specs.Relays.{State}
+use Rattle.turn_machine.specs.Relays.{seconds, State}
 use Rattle.turn_machine.specs.Events.{Offer, Want}
 use Rattle.turn_machine.specs.Reserving.{Reservation, Outer, reserves, claims, is_claim}
 use Rattle.turn_allocations.specs.declared.families.Families.{Families}
@@ -29,6 +29,20 @@ abbrev pub reserving : State → Answer → FiveTuple → (user : ℕ) → Reser
 reserving state answer tuple user r =
     reserves tuple user r.id r.lifetime
     (want_in (has_numbers state) (numbers_in answer) (family_number r.family) r.address) r.next r.token
+
+-- with the socket that a request reserved, if it reserved one
+abbrev pub with_reserved : (now : ℕ) → FiveTuple → (user : ℕ) → Reserve → Option Endpoint
+    → List Reservation → List Reservation
+with_reserved now tuple user r None held = held
+with_reserved now tuple user r (Some address) held = record {
+  token = r.token;
+  user = user;
+  tuple = tuple;
+  id = r.id;
+  family = family_number r.family;
+  address = address;
+  until = now + seconds 30;
+} ∷ held
 
 -- An Allocate request with a token. The number of the reserved socket is what the answer shows
 abbrev pub number_for : Bool → Families ℕ → Option Reservation → Option ℕ

@@ -1,7 +1,9 @@
 //! The reserved sockets.
 
-ghost use Rattle.std.specs.Prelude.{◌≡◌, ◌+◌, ◌≤◌, ◌++◌, not, map, length, filter, nat_lt, vec_len, vec_capacity, ◌==◌};
+ghost use Rattle.std.specs.Prelude.{◌≡◌, ◌+◌, ◌≤◌, ◌++◌, not, map, length, filter, find, nat_lt, vec_len, vec_capacity, option_copied, ◌==◌};
 ghost use Rattle.turn_slots.specs.Users.{user_number};
+ghost use Rattle.turn_machine.specs.Reserving.{is_claim, is_reserved_by};
+ghost use Rattle.turn_reservations.specs.Held.{reservation_of};
 
 use crate::requests::Family;
 use std::alloc::{AllocError, Global};
@@ -77,6 +79,44 @@ fn report(reserved: &[Reserved], now: u128, over: &mut Vec<u64>)
     }
 }
 
+/// Leaves what has not expired.
+fn leave(reserved: &mut Vec<Reserved>, now: u128)
+    ensures items { reserved.new.items ≡ filter (λ r. nat_lt now r.until) reserved.old.items }
+    ensures fewer { vec_len reserved.new ≤ vec_len reserved.old }
+    ensures capacity { vec_capacity reserved.new ≡ vec_capacity reserved.old }
+{
+    reserved.retain(|one| now < one.until);
+}
+
+/// Leaves those with other tokens.
+fn forget(reserved: &mut Vec<Reserved>, token: u64)
+    ensures items { reserved.new.items ≡ filter (λ r. not (r.token == token)) reserved.old.items }
+    ensures fewer { vec_len reserved.new ≤ vec_len reserved.old }
+    ensures capacity { vec_capacity reserved.new ≡ vec_capacity reserved.old }
+{
+    reserved.retain(|one| !(one.token == token));
+}
+
+/// Finds a user's with a token.
+fn find_claimed(reserved: &[Reserved], user: UserId, token: u64) -> Option<&Reserved>
+    ensures { option_copied result
+        ≡ find (λ r. is_claim (user_number user) token (reservation_of r)) reserved.now }
+{
+    reserved
+        .iter()
+        .find(|one| one.token == token && is_same(one.user, user))
+}
+
+/// Finds what a request reserved.
+fn find_made<'a>(reserved: &'a [Reserved], tuple: &FiveTuple, id: u128) -> Option<&'a Reserved>
+    ensures { option_copied result
+        ≡ find (λ r. is_reserved_by tuple.now id (reservation_of r)) reserved.now }
+{
+    reserved
+        .iter()
+        .find(|one| *tuple == one.tuple && one.id == id)
+}
+
 impl Held {
     ghost use Rattle.std.specs.Prelude.{◌≡◌, ◌<◌, ◌≤◌, ◌∷◌, [], IfOk, not, map, length, filter, find, count_by, nat_lt, Some, None};
     ghost use Rattle.std.specs.Option.{option_map, option_map_or};
@@ -117,7 +157,7 @@ impl Held {
     {
         self.over.clear();
         report(&self.reserved, now, &mut self.over);
-        self.reserved.retain(|one| now < one.until);
+        leave(&mut self.reserved, now);
     }
 
     /// Removes those with a token.
@@ -126,7 +166,7 @@ impl Held {
           held = filter (λ r. not (is_token token r)) self.old.held;
         } }
     {
-        self.reserved.retain(|one| !(one.token == token));
+        forget(&mut self.reserved, token);
     }
 
     /// Inserts one, as the newest.
@@ -159,11 +199,10 @@ impl Held {
         ensures { option_map reservation_of result
             ≡ find (is_claim (user_number user) token) self.now.held }
     {
-        let found = self
-            .reserved
-            .iter()
-            .find(|one| one.token == token && is_same(one.user, user))?;
-        Some(*found)
+        match find_claimed(&self.reserved, user, token) {
+            Some(found) => Some(*found),
+            None => None,
+        }
     }
 
     /// Returns the token of what a request reserved.
@@ -171,10 +210,9 @@ impl Held {
         ensures { result ≡ option_map_or (λ r. Some r.token)
             (find (is_reserved_by tuple.now id) self.now.held) None }
     {
-        let found = self
-            .reserved
-            .iter()
-            .find(|one| *tuple == one.tuple && one.id == id)?;
-        Some(found.token)
+        match find_made(&self.reserved, tuple, id) {
+            Some(found) => Some(found.token),
+            None => None,
+        }
     }
 }

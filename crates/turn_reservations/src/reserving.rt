@@ -1,28 +1,30 @@
 //! Allocations with reservations.
 
-ghost use Rattle.std.specs.Prelude.{◌≡◌, ◌<◌, ◌≤◌, ◌^◌, ◌*◌, ◌+◌, ◌&&◌, ◌==◌, ℕ, List, Bool, [], IfOk, IfSome, Option, None, Some, not, max, length, filter, find, true, false, map, ◌||◌, if◌then◌else◌};
-ghost use Rattle.std.specs.Option.{option_map};
+ghost use Rattle.std.specs.Prelude.{◌≡◌, ◌<◌, ◌≤◌, ◌^◌, ◌*◌, ◌+◌, ◌&&◌, ◌==◌, ℕ, List, Bool, [], IfOk, IfSome, Option, None, Some, max, length, find, ◌∷◌, true, false, map, ◌||◌, if◌then◌else◌};
+ghost use Rattle.std.specs.Option.{option_map, option_map_or};
+ghost use Rattle.stun_endpoints.specs.declared.endpoints.FiveTuple.{FiveTuple};
 ghost use Rattle.turn_slots.specs.Users.{user_number};
 ghost use Rattle.turn_machine.specs.Relays.{Rules, State, is_of};
 ghost use Rattle.turn_machine.specs.Events.{Icmp, asks, sends, sends_on, arrives, bounces, ends, ends_user, ticks, answers, nothing};
 ghost use Rattle.turn_machine.specs.Rows.{has_any};
 ghost use Rattle.turn_machine.specs.Times.{at};
 ghost use Rattle.turn_machine.specs.Runs.{initial_state};
-ghost use Rattle.turn_machine.specs.Reserving.{plain, can_reserve, is_held, held_at, no_want, is_success};
+ghost use Rattle.turn_machine.specs.Reserving.{plain, can_reserve, claimed_want, held_at, no_want, is_claim, is_reserved_by, is_success};
+ghost use Rattle.turn_allocations.specs.declared.families.Families.{Families};
 ghost use Rattle.turn_allocations.specs.Answers.{answer_of};
 ghost use Rattle.turn_allocations.specs.Outputs.{sending, receiving, bouncing};
-ghost use Rattle.turn_allocations.specs.Requests.{asked};
+ghost use Rattle.turn_allocations.specs.Requests.{asked, wants_of};
 ghost use Rattle.turn_allocations.specs.Setups.{rules_of, setup_of};
-ghost use Rattle.turn_reservations.specs.Calls.{IsOuterStep};
+ghost use Rattle.turn_reservations.specs.Calls.{over_at, IsOuterStep};
 ghost use Rattle.turn_reservations.specs.Held.{family_number};
-ghost use Rattle.turn_reservations.specs.Requests.{reserving, claiming};
+ghost use Rattle.turn_reservations.specs.Requests.{want_in, number_for, with_reserved, reserving, claiming};
 
 use crate::held::{Held, Reserved};
 use crate::requests::{Claim, Family, Reply, Reserve, family_of, wants_in};
 use std::alloc::{AllocError, Global};
 use std::marker::Model;
 use stun_endpoints::{Endpoint, FiveTuple};
-use turn_allocations::{Allocations, Answer, Limits, Request, ToClient, ToPeer};
+use turn_allocations::{Allocations, Answer, Families, Limits, Request, ToClient, ToPeer, Want};
 use turn_peers::PeerPolicy;
 use turn_slots::UserId;
 
@@ -115,9 +117,10 @@ impl<const P: usize, const C: usize> Model for ReservingAllocations<P, C> {
 
 /// The next port's address, if it can be reserved for a user.
 fn place_for(held: &Held, limits: &Limits, user: UserId, next: Option<Endpoint>) -> Option<Endpoint>
-    ensures { (permissions channels : ℕ) → result
+    ensures place { (permissions channels : ℕ) → result
         ≡ if can_reserve (setup_of limits.now permissions channels) (user_number user) next held.now.held
         then next else None }
+    ensures room { IfSome result (λ _. length held.now.held < limits.now.reservations) }
 {
     if held.count_of(user) < limits.of_user as usize && held.len() < limits.reservations as usize {
         next
@@ -137,6 +140,88 @@ fn unready_family(family: Option<u8>, limits: &Limits) -> Family
         Some(family) => family_of(family),
         None if limits.families.ipv4 => Family::Ipv4,
         None => Family::Ipv6,
+    }
+}
+
+/// What a request that reserves asks for: its socket, if the next port can be reserved.
+fn pair_wants(reserve: &Reserve, next: Option<Endpoint>) -> Families<Want>
+    ensures { (is_open : Bool) (numbers : Families ℕ) → wants_of is_open numbers result
+        ≡ want_in is_open numbers (family_number reserve.now.family)
+        (if is_some next then reserve.now.address else None) ∷ [] }
+{
+    match next {
+        Some(_) => wants_in(reserve.family, reserve.address),
+        None => wants_in(reserve.family, None),
+    }
+}
+
+/// What a request with a token asks for.
+fn claimed_wants(
+    held: &Held,
+    limits: &Limits,
+    user: UserId,
+    token: u64,
+    family: Option<u8>,
+) -> Families<Want>
+    requires { IfSome family (λ f. ((f == 1) || (f == 2)) ≡ true) }
+    ensures { (tuple : FiveTuple) (state : State) (permissions channels : ℕ) (is_open : Bool)
+        (numbers : Families ℕ) → family ≡ option_map (λ a. a.family) (find (is_of tuple) state.relays)
+        → wants_of is_open numbers result
+        ≡ claimed_want (setup_of limits.now permissions channels) tuple (user_number user) token
+        (number_for is_open numbers (find (is_claim (user_number user) token) held.now.held)) state
+        held.now.held ∷ [] }
+{
+    match held.claimed(user, token) {
+        Some(reserved) => wants_in(reserved.family, Some(reserved.address)),
+        None => wants_in(unready_family(family, limits), None),
+    }
+}
+
+/// The address of what is reserved, if the request opens an allocation.
+fn if_opening(is_opening: bool, next: Option<Endpoint>) -> Option<Endpoint>
+    ensures { result ≡ if is_opening then next else None }
+{
+    if is_opening { next } else { None }
+}
+
+/// Reserves a port, if there is one.
+fn keep(
+    held: &mut Held,
+    clock: u128,
+    tuple: &FiveTuple,
+    user: UserId,
+    reserve: &Reserve,
+    next: Option<Endpoint>,
+)
+    requires room { IfSome next (λ _. length held.old.held < held.old.places) }
+    requires early { clock < 2 ^ 64 }
+    ensures { held.new ≡ record held.old {
+      held = with_reserved clock tuple.now (user_number user) reserve.now next held.old.held;
+    } }
+{
+    if let Some(address) = next {
+        held.insert(Reserved {
+            token: reserve.token,
+            user,
+            tuple: *tuple,
+            id: reserve.id,
+            family: reserve.family,
+            address,
+            until: clock + LASTING,
+        });
+    }
+}
+
+/// The token of a success response.
+fn token_for(held: &Held, is_success: bool, tuple: &FiveTuple, id: u128) -> Option<u64>
+    ensures { result ≡ if is_success
+        then option_map_or (λ r. Some r.token) (find (is_reserved_by tuple.now id) held.now.held) None
+        else None }
+{
+    if is_success {
+        held.token_of(tuple, id)
+    } else {
+        None
     }
 }
 
@@ -199,6 +284,14 @@ impl<const P: usize, const C: usize> ReservingAllocations<P, C> {
         self.held.over()
     }
 
+    /// The clock at a moment.
+    fn clock_at(&self, now: u64) -> u128
+        ensures clock { result ≡ max self.now.holding.state.clock now }
+        ensures early { result < 2 ^ 64 }
+    {
+        self.allocations.clock().max(now as u128)
+    }
+
     /// Ends the reservations that have expired.
     fn sweep(&mut self, now: u64)
         ensures { self.new ≡ record self.old {
@@ -206,26 +299,11 @@ impl<const P: usize, const C: usize> ReservingAllocations<P, C> {
             state = self.old.holding.state;
             held = held_at now self.old.holding;
           };
-          over = map (λ r. r.token)
-              (filter (λ r. not (is_held (max self.old.holding.state.clock now) r)) self.old.holding.held);
+          over = over_at now self.old.holding;
         } }
     {
-        self.held.sweep(self.allocations.clock().max(now as u128));
-    }
-
-    /// Reserves the next port, if the request opened an allocation and the port can be reserved.
-    fn keep(&mut self, tuple: &FiveTuple, user: UserId, reserve: &Reserve, next: Option<Endpoint>) {
-        if let Some(address) = next {
-            self.held.insert(Reserved {
-                token: reserve.token,
-                user,
-                tuple: *tuple,
-                id: reserve.id,
-                family: reserve.family,
-                address,
-                until: self.allocations.clock() + LASTING,
-            });
-        }
+        let clock = self.clock_at(now);
+        self.held.sweep(clock);
     }
 
     /// Answers an Allocate request of an authenticated user that reserves the next higher port (RFC 8656,
@@ -252,28 +330,20 @@ impl<const P: usize, const C: usize> ReservingAllocations<P, C> {
             (answers tuple.now (answer_of result.answer)) result.token self.new }
     {
         self.sweep(now);
-        let is_new = self.allocations.family_of(now, tuple).is_none();
-        let next = place_for(&self.held, &self.allocations.limits(), user, reserve.next);
-        let address = if next.is_some() {
-            reserve.address
-        } else {
-            None
-        };
+        let clock = self.clock_at(now);
+        let limits = self.allocations.limits();
+        let family = self.allocations.family_of(now, tuple);
+        let next = place_for(&self.held, &limits, user, reserve.next);
         let allocate = Request::Allocate {
             id: reserve.id,
             lifetime: reserve.lifetime,
-            wants: wants_in(reserve.family, address),
+            wants: pair_wants(&reserve, next),
         };
         let answer = self.allocations.request(now, tuple, user, allocate, policy);
         let is_success = is_success(&answer);
-        if is_new && is_success {
-            self.keep(tuple, user, &reserve, next);
-        }
-        let token = if is_success {
-            self.held.token_of(tuple, reserve.id)
-        } else {
-            None
-        };
+        let opened = if_opening(family.is_none() & is_success, next);
+        keep(&mut self.held, clock, tuple, user, &reserve, opened);
+        let token = token_for(&self.held, is_success, tuple, reserve.id);
         Reply { answer, token }
     }
 
@@ -299,18 +369,15 @@ impl<const P: usize, const C: usize> ReservingAllocations<P, C> {
             (answers tuple.now (answer_of result)) None self.new }
     {
         self.sweep(now);
+        let limits = self.allocations.limits();
         let family = self.allocations.family_of(now, tuple);
-        let wants = match self.held.claimed(user, claim.token) {
-            Some(reserved) => wants_in(reserved.family, Some(reserved.address)),
-            None => wants_in(unready_family(family, &self.allocations.limits()), None),
-        };
         let allocate = Request::Allocate {
             id: claim.id,
             lifetime: claim.lifetime,
-            wants,
+            wants: claimed_wants(&self.held, &limits, user, claim.token, family),
         };
         let answer = self.allocations.request(now, tuple, user, allocate, policy);
-        if family.is_none() && is_success(&answer) {
+        if family.is_none() & is_success(&answer) {
             self.held.remove(claim.token);
         }
         answer
