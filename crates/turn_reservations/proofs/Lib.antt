@@ -1,2 +1,3 @@
 mod HeldLemmas
 mod SteppingLemmas
+mod AskingLemmas

@@ -33,7 +33,7 @@ module _ (setup : Limits → Setup) (rules : Rules) (old : Reserving) (mid : Ser
   pub state_is : mid.state ≡ old.holding.state
   state_is = ap (λ (r : Reserving). r.holding.state) sweeps
 
-  held_is : held ≡ held_at now old.holding
+  pub held_is : held ≡ held_at now old.holding
   held_is = ap (λ (r : Reserving). r.holding.held) sweeps
 
   same_step : (outer : Outer) → step (setup mid.limits) rules mid.state now (inner (setup mid.limits) (at now mid.state) held outer) ≡ (outer_step (setup old.limits) rules old.holding now outer).step

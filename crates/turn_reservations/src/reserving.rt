@@ -1,6 +1,6 @@
 //! Allocations with reservations.
 
-ghost use Rattle.std.specs.Prelude.{◌≡◌, ◌<◌, ◌≤◌, ◌^◌, ◌*◌, ◌+◌, ◌&&◌, ◌==◌, ℕ, List, Bool, [], IfOk, IfSome, Option, None, Some, max, length, find, ◌∷◌, true, false, map, ◌||◌, if◌then◌else◌};
+ghost use Rattle.std.specs.Prelude.{filter, not, is_some, ◌≡◌, ◌<◌, ◌≤◌, ◌^◌, ◌*◌, ◌+◌, ◌&&◌, ◌==◌, ℕ, List, Bool, [], IfOk, IfSome, Option, None, Some, max, length, find, ◌∷◌, true, false, map, ◌||◌, if◌then◌else◌};
 ghost use Rattle.std.specs.Option.{option_map, option_map_or};
 ghost use Rattle.stun_endpoints.specs.declared.endpoints.FiveTuple.{FiveTuple};
 ghost use Rattle.turn_slots.specs.Users.{user_number};
@@ -9,7 +9,7 @@ ghost use Rattle.turn_machine.specs.Events.{Icmp, asks, sends, sends_on, arrives
 ghost use Rattle.turn_machine.specs.Rows.{has_any};
 ghost use Rattle.turn_machine.specs.Times.{at};
 ghost use Rattle.turn_machine.specs.Runs.{initial_state};
-ghost use Rattle.turn_machine.specs.Reserving.{plain, can_reserve, claimed_want, held_at, no_want, is_claim, is_reserved_by, is_success};
+ghost use Rattle.turn_machine.specs.Reserving.{plain, can_reserve, claimed_want, held_at, no_want, is_claim, is_reserved_by, is_success, is_token};
 ghost use Rattle.turn_allocations.specs.declared.families.Families.{Families};
 ghost use Rattle.turn_allocations.specs.Answers.{answer_of};
 ghost use Rattle.turn_allocations.specs.Outputs.{sending, receiving, bouncing};
@@ -212,6 +212,17 @@ fn keep(
     }
 }
 
+/// Uses up a token, if the request opened an allocation.
+fn use_up(held: &mut Held, is_opening: bool, token: u64)
+    ensures { held.new ≡ record held.old {
+      held = if is_opening then filter (λ r. not (is_token token r)) held.old.held else held.old.held;
+    } }
+{
+    if is_opening {
+        held.remove(token);
+    }
+}
+
 /// The token of a success response.
 fn token_for(held: &Held, is_success: bool, tuple: &FiveTuple, id: u128) -> Option<u64>
     ensures { result ≡ if is_success
@@ -377,9 +388,8 @@ impl<const P: usize, const C: usize> ReservingAllocations<P, C> {
             wants: claimed_wants(&self.held, &limits, user, claim.token, family),
         };
         let answer = self.allocations.request(now, tuple, user, allocate, policy);
-        if family.is_none() & is_success(&answer) {
-            self.held.remove(claim.token);
-        }
+        let is_opening = family.is_none() & is_success(&answer);
+        use_up(&mut self.held, is_opening, claim.token);
         answer
     }
 

@@ -1,6 +1,5 @@
 use Rattle.std.proofs.Common.{◌≡◌, ℕ, List, not, map, filter, ◌++◌, sym, ap, ◌∙◌, subst}
 use Rattle.turn_machine.specs.Reserving.{Reservation, is_held}
-use Rattle.turn_reservations.specs.declared.held.Reserved.{Reserved}
 use Rattle.turn_reservations.specs.Held.{Holding, reservation_of}
 use Rattle.turn_reservations.proofs.HeldLemmas.{filter_mapped, told, told_mapped}
 use Rattle.turn_reservations.proofs.held.Held.sweep.Goals as goal

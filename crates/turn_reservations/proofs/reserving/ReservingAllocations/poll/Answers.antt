@@ -1,14 +1,7 @@
-use Rattle.std.proofs.Common.{◌≡◌, ℕ, true, List, [], sym, ap, ◌∙◌}
-use Rattle.turn_slots.specs.Users.{user_number}
-use Rattle.turn_machine.specs.Relays.{Rules}
-use Rattle.turn_machine.specs.Events.{Icmp, asks, sends, sends_on, arrives, bounces, ends, ends_user, ticks, answers, nothing}
-use Rattle.turn_machine.specs.Times.{at}
+use Rattle.std.proofs.Common.{true, sym, ap, ◌∙◌}
+use Rattle.turn_machine.specs.Events.{ticks, nothing}
 use Rattle.turn_allocations.specs.declared.limits.Limits.{Limits}
-use Rattle.turn_allocations.specs.Answers.{answer_of}
-use Rattle.turn_allocations.specs.Outputs.{sending, receiving, bouncing}
-use Rattle.turn_allocations.specs.Requests.{asked}
-use Rattle.turn_allocations.specs.Setups.{rules_of, setup_of}
-use Rattle.turn_allocations.specs.Tables.{Serving, IsStep}
+use Rattle.turn_allocations.specs.Setups.{setup_of}
 use Rattle.turn_reservations.proofs.SteppingLemmas.{plainly}
 use Rattle.turn_reservations.proofs.reserving.ReservingAllocations.poll.Goals as goal
 
