@@ -6,7 +6,7 @@ use Rattle.std.specs.Prelude.{◌&&◌, ◌||◌, is_some}
 use Rattle.stun_endpoints.specs.declared.endpoints.Endpoint.{Endpoint}
 use Rattle.stun_endpoints.specs.declared.endpoints.FiveTuple.{FiveTuple}
 use Rattle.turn_machine.specs.Relays.{seconds, Relay, Setup, State, is_of}
-use Rattle.turn_machine.specs.Events.{Want, Event, allocate, asks}
+use Rattle.turn_machine.specs.Events.{Want, allocate, asks}
 use Rattle.turn_machine.specs.Rows.{has_any}
 use Rattle.turn_machine.specs.Reserving.{Reservation, reserves, has_place, can_reserve, inner, reservation}
 use Rattle.turn_allocations.specs.declared.families.Families.{Families}

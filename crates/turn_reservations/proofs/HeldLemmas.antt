@@ -1,5 +1,5 @@
 -- What is asked of reserved sockets is asked of the machine's reservations.
-use Rattle.std.proofs.Common.{◌≡◌, ℕ, ◌+◌, Bool, true, false, cond, List, [], ◌∷◌, map, filter, find, Option, None, Some, refl, sym, ap, ◌∙◌, append-nil}
+use Rattle.std.proofs.Common.{◌≡◌, ℕ, ◌+◌, Bool, true, false, cond, List, [], ◌∷◌, map, filter, find, Some, refl, ap, ◌∙◌, append-nil}
 use Rattle.std.specs.Option.{option_map}
 use Rattle.std.specs.Prelude.{◌<◌, ◌++◌, not, nat_lt, length, take, get_or}
 use Rattle.std.proofs.lemmas.List.{map-append}

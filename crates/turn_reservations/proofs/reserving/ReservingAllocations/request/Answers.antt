@@ -1,4 +1,4 @@
-use Rattle.std.proofs.Common.{◌≡◌, ℕ, None, sym, ap, ◌∙◌, subst}
+use Rattle.std.proofs.Common.{None, sym, ap, ◌∙◌, subst}
 use Rattle.turn_slots.specs.Users.{user_number}
 use Rattle.turn_machine.specs.Relays.{State}
 use Rattle.turn_machine.specs.Events.{asks, answers}
