@@ -57,7 +57,8 @@ const LASTING: u128 = 30_000_000_000;
 /// let first = FiveTuple::default();
 /// let second = FiveTuple { transport: 17, ..first };
 /// let third = FiveTuple { transport: 6, ..first };
-/// let (even, odd) = (Endpoint { port: 50_000, ..Endpoint::default() }, Endpoint { port: 50_001, ..Endpoint::default() });
+/// let even = Endpoint { port: 50_000, ..Endpoint::default() };
+/// let odd = Endpoint { port: 50_001, ..even };
 /// let refused = Answer::Refused(Refusal::InsufficientCapacity);
 ///
 /// // The pair is opened, and the same request again gets the same token.
@@ -247,7 +248,7 @@ impl<const P: usize, const C: usize> ReservingAllocations<P, C> {
     /// Makes one with no allocation, no reservation, and the clock at 0. `seed` keys the hashes of clients and
     /// users: pass random numbers.
     ///
-    /// It takes the memory of [`Allocations::new`], and 208 bytes for each of `limits.reservations`.
+    /// It takes the memory of [`Allocations::new`], and 264 bytes for each of `limits.reservations`.
     ///
     /// # Requires
     ///
