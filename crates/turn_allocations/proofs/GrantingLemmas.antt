@@ -225,7 +225,7 @@ becomes_both follows has t tuple user client owns mine sound change keeps =
       slots = changed_length (slot_of client.ipv6) change first ∙ changed_length (slot_of client.ipv4) change t.slots;
     })
 
--- ---- A change in the place of one family
+-- ---- A change for one family
 
 map_same : (f : Relay → Relay) (rs : List Relay) → AllByRecursion (λ r. f r ≡ r) rs → map f rs ≡ rs
 map_same f [] each = refl

@@ -1,17 +1,25 @@
 -- A call is a step of the machine: a sweep, and what happens then.
-use Rattle.std.proofs.Common.{◌≡◌, ℕ, zero, suc, None, replicate, ◌+◌, ◌≤◌, ◌^◌, List, [], ◌++◌, refl, sym, ap, ◌∙◌, subst, arith}
-use Rattle.turn_machine.specs.Relays.{Setup, Rules, State}
+use Rattle.std.proofs.Common.{Option, Some, Bool, true, false, not, ◌∷◌, inl, inr, eq-eqb, ◌≡◌, ℕ, zero, suc, None, replicate, ◌+◌, ◌≤◌, ◌^◌, List, [], ◌++◌, refl, sym, ap, ◌∙◌, subst, arith}
+use Rattle.std.specs.List.{AllByRecursion, list_any}
+use Rattle.std.specs.Option.{IfSome, IfNone}
+use Rattle.std.specs.Prelude.{◌||◌, ◌==◌, nat_le, MatchOption}
+use Rattle.std.proofs.lemmas.Bool.{cases_Bool, or_parts, le-leb, leb-true}
+use Rattle.turn_machine.specs.Relays.{Relay, Setup, Rules, State}
 use Rattle.turn_machine.specs.Events.{Event, Output}
 use Rattle.turn_machine.specs.Lists.{times}
 use Rattle.turn_machine.specs.Times.{at, over_at}
 use Rattle.turn_machine.specs.Steps.{Step, keeping, happens, step}
-use Rattle.turn_relays.specs.Relayed.{Table, state_of}
-use Rattle.turn_relays.specs.Following.{listed}
+use Rattle.turn_relays.specs.Relayed.{Table, state_of, Each}
+use Rattle.turn_relays.specs.Following.{listed, ListFollowsSlots}
+use Rattle.turn_relays.specs.Listing.{ListHasSlots}
+use Rattle.turn_relays.specs.Facts.{IsFirstEnd}
 use Rattle.turn_allocations.specs.declared.limits.Limits.{Limits}
 use Rattle.turn_allocations.specs.Clients.{Becomes}
 use Rattle.turn_allocations.specs.Ending.{Numbers}
 use Rattle.turn_allocations.specs.Serving.{Appends, IsDone}
-use Rattle.turn_allocations.specs.Tables.{Serving, IsStep}
+use Rattle.turn_allocations.specs.Calls.{IsAfter, CallsAreARun}
+use Rattle.turn_allocations.specs.Tables.{Serving, IsStep, IsNextEnd}
+use Rattle.turn_machine.specs.Runs.{Timed, run}
 use Rattle.turn_allocations.proofs.EndingLemmas.{times_append}
 
 -- nothing changes
@@ -50,3 +58,61 @@ stepped setup rules limits ended t swept new before mid after now event output s
 pub none_listed : (n : ℕ) → listed (replicate n None) ≡ []
 none_listed zero = refl
 none_listed (suc n) = none_listed n
+
+-- ---- The next that expires
+
+differ : (b : Bool) → b ≡ true → b ≡ false → ⊥
+differ true is also = absurd cc
+differ false is also = absurd cc
+
+not_at : (due : ℕ) (rs : List Relay) → list_any (λ r. r.until == due) rs ≡ false → AllByRecursion (λ r. not (r.until == due) ≡ true) rs
+not_at due [] none = tt
+not_at due (r ∷ rs) none =
+    let parts = or_parts (r.until == due) (list_any (λ a. a.until == due) rs) none in
+    (ap not parts.0, not_at due rs parts.1)
+
+due_later : (due : ℕ) (rs : List Relay) → AllByRecursion (λ r. nat_le due r.until ≡ true) rs → AllByRecursion (λ r. due ≤ r.until) rs
+due_later due [] each = tt
+due_later due (r ∷ rs) each = (leb-true due r.until each.0, due_later due rs each.1)
+
+pub next_end : ListHasSlots → (t : Table) (due : ℕ) → IsFirstEnd due t → IsNextEnd due (state_of t).relays
+next_end has t due first = record {
+  some = elim (cases_Bool (list_any (λ r. r.until == due) (listed t.slots))) [
+    | inl found ↦ found
+    | inr none ↦
+        let it = first.some in
+        let isnt = has.each t.slots (λ r. not (r.until == due)) (not_at due (listed t.slots) none) it.0 it.1 it.2 in
+        absurd (differ (not (it.1.until == due)) isnt (ap not (eq-eqb it.1.until due it.3)))
+  ];
+  least = due_later due (listed t.slots) (has.all t.slots (λ r. nat_le due r.until) (λ slot r there. le-leb due r.until (first.least slot r there)));
+}
+
+pub none_left : ListFollowsSlots → (t : Table) → Each t (λ r. ⊥) → (state_of t).relays ≡ []
+none_left follows t none = no_relay (listed t.slots) (follows.missing t.slots (λ r. true) (λ slot r there. absurd (none slot r there)))
+  where
+    no_relay : (rs : List Relay) → AllByRecursion (λ r. true ≡ false) rs → rs ≡ []
+    no_relay [] each = refl
+    no_relay (r ∷ rs) each = absurd (differ true refl each.0)
+
+pub next_answer : ListFollowsSlots → ListHasSlots → (t : Table) (result : Option ℕ) → IfSome result (λ due. IsFirstEnd due t) → IfNone result (Each t (λ r. ⊥))
+    → MatchOption result ((state_of t).relays ≡ []) (λ due. IsNextEnd due (state_of t).relays)
+next_answer follows has t None some none = none_left follows t none
+next_answer follows has t (Some due) some none = next_end has t due some
+
+-- ---- Calls in a row
+
+run_state : (setup : Setup) (limits : Limits) (events : List Timed) (s : Serving) → IsAfter setup limits events s → s.state ≡ run setup events
+run_state setup limits [] s is = ap (λ (x : Serving). x.state) is
+run_state setup limits (timed ∷ earlier) s is =
+    is.3.state_is ∙ ap (λ (x : State). (step setup timed.rules x timed.now timed.event).state) (run_state setup limits earlier is.0 is.2)
+
+pub calls_run : CallsAreARun
+calls_run = record {
+  state = run_state;
+  next = λ setup limits events timed old new output after one.
+      let same = run_state setup limits events old after in
+      record {
+        output_is = one.output_is ∙ ap (λ (x : State). (step setup timed.rules x timed.now timed.event).output) same;
+        ended_are = λ n. one.ended_are n ∙ ap (λ (x : State). times n (step setup timed.rules x timed.now timed.event).closes) same;
+      };
+}

@@ -1,4 +1,4 @@
--- What requests are answered, in the machine's terms.
+-- Answers to requests, in the machine's terms.
 use Rattle.std.specs.Prelude.{ℕ, List, [], ◌∷◌, ◌++◌, Option, None, Some}
 use Rattle.std.specs.Option.{option_map}
 use Rattle.turn_machine.specs.Events.{Given as GivenAddress, Missing, Answer as MachineAnswer, allocated, refreshed, done, refused}
@@ -26,13 +26,13 @@ code_of InsufficientCapacity = 508
 abbrev pub given_in : (family : ℕ) → Given → GivenAddress
 given_in family g = record { family = family; number = g.number; address = g.address }
 
--- those that a client has, the newest first
+-- the relayed addresses that a client has, the newest first
 abbrev pub given_list : Families (Option Given) → List GivenAddress
 given_list given =
     newest_first (λ g. g.number)
     (option_map (given_in 1) given.ipv4 ∷ option_map (given_in 2) given.ipv6 ∷ [])
 
--- the families that it has none of, with the reason
+-- the families of which it has no relayed address, with the reason
 abbrev pub missing_in : (family : ℕ) → Option Refusal → List Missing
 missing_in family None = []
 missing_in family (Some refusal) = record { family = family; code = code_of refusal } ∷ []

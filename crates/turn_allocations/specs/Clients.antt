@@ -13,13 +13,13 @@ use Rattle.turn_allocations.specs.declared.answer.Given.{Given}
 use Rattle.turn_allocations.specs.declared.client.Place.{Place}
 use Rattle.turn_allocations.specs.declared.client.Client.{Client}
 
--- ---- What is so of each relayed address
+-- ---- Invariants of each relayed address
 
--- the greatest LIFETIME
+-- the greatest value of LIFETIME, in seconds: it has 32 bits (RFC 8656, section 18.2)
 abbrev pub lifetime_max : ℕ
 lifetime_max = 4_294_967_295
 
--- it is of a family that servers relay, and ends within the greatest lifetime
+-- it is an IPv4 or IPv6 address, and expires within the greatest lifetime
 abbrev pub is_sound : (clock : ℕ) → Relay → Bool
 is_sound clock r =
     ((r.family == 1) || (r.family == 2)) && nat_le r.until (clock + seconds lifetime_max)
@@ -27,7 +27,7 @@ is_sound clock r =
 abbrev pub AreSound : Table → Type 0
 AreSound t = AllByRecursion (λ r. is_sound t.clock r ≡ true) (state_of t).relays
 
--- ---- What it is, without what it grants
+-- ---- A relayed address without its permissions and channels
 
 pub record Identity : Type 0 where
   pub tuple : FiveTuple
@@ -49,7 +49,7 @@ identity_of r = record {
   until = r.until;
 }
 
--- as the code shows it
+-- the same of a relayed address as the code returns it
 abbrev pub seen : Relayed → Identity
 seen r = record {
   tuple = r.key.tuple;
@@ -61,9 +61,9 @@ seen r = record {
   until = r.until;
 }
 
--- ---- A client's
+-- ---- The relayed addresses of a client
 
--- this is the relayed address of a client of a family, and its slot
+-- the place has the client's relayed address of a family, and its slot: no other slot has one
 pub record IsAt (t : Table) (tuple : FiveTuple) (family : ℕ) (place : Place) : Type 0 where
   pub relay : Relay
   pub holds : Holds t place.slot relay
@@ -72,23 +72,23 @@ pub record IsAt (t : Table) (tuple : FiveTuple) (family : ℕ) (place : Place) :
   pub only : (slot : ℕ) (other : Relay) → Holds t slot other → is_for tuple family other ≡ true
       → slot ≡ place.slot
 
--- the client has this, or has none
+-- the place of the client's relayed address of a family, or none if it has none
 abbrev pub IsFound : Table → FiveTuple → (family : ℕ) → Option Place → Type 0
 IsFound t tuple family None = Each t (λ r. is_for tuple family r ≡ false)
 IsFound t tuple family (Some place) = IsAt t tuple family place
 
--- what is in the place, if there is one
+-- the relayed address in a place, if there is one
 abbrev pub in_place : Table → Option Place → Option Relay
 in_place t place = option_and_then (λ p. at_slot t p.slot) place
 
--- a test of what is in the place
+-- whether what is in a place passes a test: false if there is no place
 abbrev pub place_any : (Identity → Bool) → Option Place → Bool
 place_any test place = option_map_or (λ p. test (seen p.relayed)) place false
 
 abbrev pub given_at : Place → Given
 given_at p = record { number = p.relayed.number; address = p.relayed.address }
 
--- all that a client has, the newest first
+-- the relayed addresses in a client's places, the newest first
 abbrev pub own : Table → Client → List Relay
 own t client =
     newest_first number_of (in_place t client.ipv4 ∷ in_place t client.ipv6 ∷ [])
@@ -100,7 +100,7 @@ pub record Owns (t : Table) (tuple : FiveTuple) (client : Client) : Type 0 where
 
 -- ---- What a request leaves
 
--- the relayed addresses are these, in as many slots as before
+-- the table is in this state, with as many slots as before
 pub record Becomes (old new : Table) (state : State) : Type 0 where
   pub state_is : state_of new ≡ state
   pub slots : length new.slots ≡ length old.slots

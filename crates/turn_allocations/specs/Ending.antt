@@ -1,8 +1,8 @@
--- The numbers of the sockets that a call closes.
+-- The numbers of the sockets that a call ends.
 use Rattle.std.specs.Prelude.{◌≡◌, ℕ, List}
 use Rattle.turn_machine.specs.Lists.{times}
 
--- as many as there is room for
+-- a list of numbers, and for how many there is room
 pub record Numbers : Type 0 where
   pub room : ℕ
   pub numbers : List ℕ

@@ -1,4 +1,4 @@
--- What a request grants in a client's places.
+-- What a request grants to the relayed addresses in a client's places.
 use Rattle.std.specs.Prelude.{ℕ, Bool, false, List, length, nat_lt, Option, None, Some}
 use Rattle.std.specs.Option.{option_map_or}
 use Rattle.stun_endpoints.specs.declared.endpoints.Endpoint.{Endpoint}
@@ -12,11 +12,11 @@ use Rattle.turn_allocations.specs.Clients.{in_place}
 abbrev pub any_at : (Relay → Bool) → Table → Option Place → Bool
 any_at test t place = option_map_or test (in_place t place) false
 
--- with permissions for these peers it has more than there may be
+-- with permissions for these peers it would have more than the most
 abbrev pub lacks_room : (most now : ℕ) → List Endpoint → Relay → Bool
 lacks_room most now peers r = nat_lt most (length (permissions_after now peers r))
 
--- with this channel it has more than there may be
+-- with this channel it would have more than the most
 abbrev pub lacks_channel : (most now number : ℕ) → Endpoint → Relay → Bool
 lacks_channel most now number peer r = nat_lt most (length (with_channel now number peer r.channels))
 

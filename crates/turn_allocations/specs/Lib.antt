@@ -1,4 +1,5 @@
 pub mod Answers
+pub mod Calls
 pub mod Clients
 pub mod Ending
 pub mod Granting

@@ -11,12 +11,12 @@ use Rattle.turn_allocations.specs.Clients.{identity_of, seen, in_place}
 use Rattle.turn_allocations.specs.declared.relaying.ToPeer.{ToPeer}
 use Rattle.turn_allocations.specs.declared.relaying.ToClient.{ToClient}
 
--- data of a client
+-- the output for data of a client
 abbrev pub sending : Option ToPeer → List ℕ → Output
 sending None bytes = nothing
 sending (Some to) bytes = to_peer to.number to.peer to.dont_fragment bytes
 
--- data of a peer
+-- the output for data of a peer: on a channel, or as a Data indication
 abbrev pub receiving_on : FiveTuple → Option ℕ → Endpoint → List ℕ → Output
 receiving_on tuple None peer bytes = to_client tuple peer bytes
 receiving_on tuple (Some channel) peer bytes = to_client_on tuple channel bytes
@@ -25,19 +25,19 @@ abbrev pub receiving : Option ToClient → Endpoint → List ℕ → Output
 receiving None peer bytes = nothing
 receiving (Some to) peer bytes = receiving_on to.tuple to.channel peer bytes
 
--- ICMP about a datagram to a peer
+-- the output for an ICMP packet about a datagram to a peer
 abbrev pub bouncing : Option FiveTuple → Endpoint → Icmp → Output
 bouncing None peer icmp = nothing
 bouncing (Some tuple) peer icmp = to_client_icmp tuple peer icmp
 
 -- ---- What the code finds
 
--- this is the relayed address, and its slot
+-- the place has this relayed address, and its slot
 pub record IsOf (t : Table) (place : Place) (r : Relay) : Type 0 where
   pub holds : Holds t place.slot r
   pub shown : seen place.relayed ≡ identity_of r
 
--- this is what is looked for, if it is there
+-- the place of a relayed address, or none if there is none
 abbrev pub IsPlaced : Table → Option Place → Option Relay → Type 0
 IsPlaced t None o = o ≡ None
 IsPlaced t (Some place) o = (r : Relay) × IsOf t place r × (o ≡ Some r)

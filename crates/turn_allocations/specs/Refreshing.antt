@@ -9,7 +9,7 @@ abbrev pub if_wanted : Option Place → (of : ℕ) → (family : Option ℕ) →
 if_wanted place of None = place
 if_wanted place of (Some family) = if family == of then place else None
 
--- a relayed address with another end
+-- a relayed address that ends at another moment
 abbrev pub ends_at : ℕ → Relay → Relay
 ends_at end r = record r { until = end }
 

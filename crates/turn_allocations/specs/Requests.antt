@@ -28,7 +28,7 @@ last_number = 2 ^ 64 - 3 * 2 ^ 24
 abbrev pub has_numbers : State → Bool
 has_numbers state = nat_le state.next last_number
 
--- the number that a socket of this family gets, which the answer shows
+-- the number of a relayed address in an answer, or 0 if there is none
 abbrev pub number_in : Option Given → ℕ
 number_in given = option_map_or (λ g. g.number) given 0
 
@@ -36,6 +36,7 @@ abbrev pub numbers_in : Answer → Families ℕ
 numbers_in (Allocated given lifetime missing) = record { ipv4 = number_in given.ipv4; ipv6 = number_in given.ipv6 }
 numbers_in _ = record { ipv4 = 0; ipv6 = 0 }
 
+-- the socket that is ready, if there are numbers left
 abbrev pub offer_of : Bool → (number : ℕ) → Endpoint → Option Offer
 offer_of is_open number address = if is_open then Some (record { number = number; address = address }) else None
 
@@ -68,7 +69,7 @@ abbrev pub number_to : FiveTuple → (family : ℕ) → State → ℕ
 number_to tuple family state =
     option_map_or (λ a. a.number) (find (is_for tuple family) state.relays) 0
 
--- one relayed address of a family, if the client asks for it and can have it
+-- opens a relayed address of a family, if the client asks for it and can have it
 pub record OpensOf (setup : Setup) (tuple : FiveTuple) (user id until family : ℕ) (want : Want)
     (old new : Table) : Type 0 where
   pub state_is : state_of new ≡ opens setup tuple user id until
@@ -77,7 +78,7 @@ pub record OpensOf (setup : Setup) (tuple : FiveTuple) (user id until family : �
   pub clock : new.clock ≡ old.clock
   pub openings : new.openings ≤ old.openings + 1
 
--- all that can be had, for so many seconds
+-- opens each want that can be met, for this lifetime in seconds, and answers with what the client has
 pub record Grants (setup : Setup) (tuple : FiveTuple) (user id lifetime : ℕ) (wants : Families Want)
     (old new : Table) (answer : Answer) : Type 0 where
   pub becomes : Becomes old new (allocates setup tuple user id lifetime

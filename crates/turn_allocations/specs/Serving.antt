@@ -1,4 +1,4 @@
--- What a request is answered and leaves, once what has expired has ended.
+-- The answer to a request, and what it leaves, after what has expired has ended.
 use Rattle.std.specs.Prelude.{◌≡◌, ℕ, Bool, true, ◌++◌, List, Option, None, Some}
 use Rattle.stun_endpoints.specs.declared.endpoints.FiveTuple.{FiveTuple}
 use Rattle.turn_machine.specs.Relays.{Relay, Setup, Rules}
@@ -15,23 +15,24 @@ abbrev pub or_else : Option ℕ → Option ℕ → Option ℕ
 or_else None others = others
 or_else (Some code) others = Some code
 
--- the numbers that end are appended
+-- the numbers of the sockets that end are appended, in any order
 pub record Appends (old new : Numbers) (closes : List ℕ) : Type 0 where
   pub room : new.room ≡ old.room
   pub numbers : AreSame new.numbers (old.numbers ++ closes)
 
--- a step of the machine is done
+-- the table and the numbers are what a step of the machine leaves
 pub record IsDone (s : Step) (old new : Table) (before after : Numbers) : Type 0 where
   pub becomes : Becomes old new s.state
   pub closes : Appends before after s.closes
 
+-- the machine serves a request with this answer
 pub record Serves (setup : Setup) (rules : Rules) (tuple : FiveTuple) (user : ℕ) (request : Request)
     (old new : Table) (before after : Numbers) (answer : Answer) : Type 0 where
   pub answered : (serves setup rules tuple user request (state_of old)).output
       ≡ answers tuple (answer_of answer)
   pub done : IsDone (serves setup rules tuple user request (state_of old)) old new before after
 
--- this slot alone has one that passes a test
+-- only the relayed address in this slot passes a test
 abbrev pub IsOnly : Table → (Relay → Bool) → (slot : ℕ) → Type 0
 IsOnly t test slot =
     (r : Relay) × Holds t slot r × (test r ≡ true)

@@ -1,4 +1,4 @@
--- The machine's setup and rules, of what the caller sets.
+-- The machine's setup and rules, from limits and a policy.
 use Rattle.std.specs.Prelude.{ℕ, Bool, ◌&&◌, ◌==◌, if◌then◌else◌}
 use Rattle.stun_endpoints.specs.declared.endpoints.Ip.{Ip}
 use Rattle.stun_endpoints.specs.declared.endpoints.Endpoint.{Endpoint}
@@ -7,11 +7,12 @@ use Rattle.turn_peers.specs.Policies.{is_peer}
 use Rattle.turn_allocations.specs.declared.limits.Limits.{Limits}
 use Rattle.turn_allocations.specs.declared.families.Families.{Families}
 
+-- whether there is a family: 1 is IPv4, and 2 is IPv6
 abbrev pub supports : Families Bool → (family : ℕ) → Bool
 supports families family =
     if family == 1 then families.ipv4 else (family == 2) && families.ipv6
 
--- the limits of a server, and the most permissions and channels of each relayed address
+-- the setup of these limits, with the most permissions and channels of each relayed address
 abbrev pub setup_of : Limits → (permissions channels : ℕ) → Setup
 setup_of limits permissions channels = record {
   most_relays = limits.relays;
@@ -27,6 +28,7 @@ setup_of limits permissions channels = record {
   channel_permits = limits.channel_permits;
 }
 
--- The rules of a policy: what it says of IP addresses and of ports. None of Teredo or 6to4 is a peer
+-- The rules of a policy on IP addresses and ports. No Teredo or 6to4 address is a peer (RFC 8656, section
+-- 21.4)
 abbrev pub rules_of : (Ip → Bool) → (Endpoint → Bool) → Rules
 rules_of address port = record { allows_ip = is_peer address; allows_port = port }

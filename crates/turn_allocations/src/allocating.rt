@@ -32,7 +32,7 @@ use turn_slots::{RelayKey, UserId};
 /// Nanoseconds of a second.
 const SECOND: u128 = 1_000_000_000;
 
-/// What an Allocate request is, besides what it asks for.
+/// The client, the user and the transaction ID of an Allocate request.
 #[derive(Clone, Copy)]
 pub(crate) struct Asking {
     pub(crate) tuple: FiveTuple,
@@ -60,7 +60,7 @@ impl Want {
     }
 }
 
-/// Whether the server has a family that a request asks for.
+/// Whether the server relays a family that a request asks for.
 fn is_offered(limits: &Limits, wants: &Families<Want>) -> bool
     ensures { (permissions channels : ℕ) (is_open : Bool) (numbers : Families ℕ)
         → result ≡ list_any (is_offered (setup_of limits.now permissions channels))
@@ -70,7 +70,7 @@ fn is_offered(limits: &Limits, wants: &Families<Want>) -> bool
         | (wants.ipv6.is_wanted() & limits.families.ipv6)
 }
 
-/// Whether a socket is ready for a family that the server has, and there are numbers.
+/// Whether a socket is ready for a family that the server relays, and there are numbers.
 fn is_ready(limits: &Limits, is_open: bool, wants: &Families<Want>) -> bool
     ensures any { (permissions channels : ℕ) (numbers : Families ℕ)
         → result ≡ list_any (is_ready (setup_of limits.now permissions channels))
@@ -92,7 +92,8 @@ fn granted_for(wanted: Option<u32>, greatest: u32) -> u32
     }
 }
 
-/// Beyond this number no relayed address is opened: numbers last for 2^40 - 3 openings.
+/// The last value of the next number at which an Allocate request opens relayed addresses: numbers last for
+/// 2^40 - 3 openings.
 const LAST_NUMBER: u64 = 18_446_744_073_659_219_968;
 
 /// Whether there are numbers for two more relayed addresses.
@@ -122,7 +123,7 @@ fn has_room<const P: usize, const C: usize>(relays: &Relays<P, C>, limits: &Limi
     relays.len() < limits.relays as usize
 }
 
-/// Why a client's user gets none of what it asks for.
+/// Why an Allocate request is refused, or `None` if it gets a relayed address.
 fn allocate_fault<const P: usize, const C: usize>(
     relays: &Relays<P, C>,
     limits: &Limits,
@@ -154,7 +155,7 @@ fn allocate_fault<const P: usize, const C: usize>(
     None
 }
 
-/// Whether the server has a family.
+/// Whether the server relays a family.
 fn supports(families: Families<bool>, family: u8) -> bool
     ensures { result ≡ supports families family }
 {
@@ -225,7 +226,7 @@ fn open<const P: usize, const C: usize>(
     relays.next_number();
 }
 
-/// Why a client that asked for a family has none of it.
+/// Why a client has no relayed address of a family that it asked for.
 fn missing_asked(is_given: bool, is_supported: bool) -> Option<Refusal>
     ensures { (setup : Setup) (tuple : FiveTuple) (state : State) (family : ℕ) (ready : Option Offer)
         → has_of tuple family state ≡ is_given → setup.has_family family ≡ is_supported
@@ -241,7 +242,7 @@ fn missing_asked(is_given: bool, is_supported: bool) -> Option<Refusal>
     }
 }
 
-/// Why a client has none of a family, if it asked for one.
+/// Why a client has no relayed address of a family, if it asked for one.
 fn missing(want: Want, is_given: bool, is_supported: bool) -> Option<Refusal>
     ensures { (setup : Setup) (tuple : FiveTuple) (state : State) (is_open : Bool) (family number : ℕ)
         → has_of tuple family state ≡ is_given → setup.has_family family ≡ is_supported
@@ -254,7 +255,7 @@ fn missing(want: Want, is_given: bool, is_supported: bool) -> Option<Refusal>
     }
 }
 
-/// The success response: what the client now has.
+/// The success response, with what the client now has.
 fn answer(limits: &Limits, client: &Client, wants: &Families<Want>, lifetime: u32) -> Answer
     ensures answer { (t : Table) (tuple : FiveTuple) (permissions channels : ℕ) (is_open : Bool)
         (numbers : Families ℕ) → Owns t tuple client.now
@@ -282,8 +283,8 @@ fn answer(limits: &Limits, client: &Client, wants: &Families<Want>, lifetime: u3
     }
 }
 
-/// The whole seconds until the first of a client's relayed addresses ends. Each ends within the greatest
-/// lifetime, which is a `u32`, so the bound here changes nothing.
+/// The whole seconds until the first of a client's relayed addresses expires. Each expires within 2^32 - 1
+/// seconds, so `min` changes nothing.
 fn left<const P: usize, const C: usize>(relays: &Relays<P, C>, client: &Client) -> u32
     requires { AreSound relays.now }
     ensures { (tuple : FiveTuple) → Owns relays.now tuple client.now
@@ -295,7 +296,8 @@ fn left<const P: usize, const C: usize>(relays: &Relays<P, C>, client: &Client) 
     }
 }
 
-/// Opens what can be had of what a request asks for, and answers with what the client now has.
+/// Opens each relayed address that a request asks for and that the user can have, and answers with what the
+/// client now has.
 fn grant<const P: usize, const C: usize>(
     relays: &mut Relays<P, C>,
     limits: &Limits,

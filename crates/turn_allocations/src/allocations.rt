@@ -1,9 +1,9 @@
 //! The allocations of a server.
 
-ghost use Rattle.std.specs.Prelude.{◌≡◌, ◌<◌, ◌≤◌, ◌^◌, ℕ, List, Bool, [], IfOk, MatchOption, IfSome, IfNone, find, true, ◌==◌, ◌||◌};
+ghost use Rattle.std.specs.Prelude.{◌≡◌, ◌<◌, ◌≤◌, ◌^◌, ℕ, List, [], length, count_by, IfOk, MatchOption, IfSome, find, true, ◌==◌, ◌||◌};
 ghost use Rattle.std.specs.Option.{option_map};
 ghost use Rattle.turn_slots.specs.Users.{user_number};
-ghost use Rattle.turn_machine.specs.Relays.{Rules, is_of};
+ghost use Rattle.turn_machine.specs.Relays.{Rules, is_of, is_users};
 ghost use Rattle.turn_machine.specs.Events.{Icmp, asks, sends, sends_on, arrives, bounces, ends, ends_user, ticks, answers, nothing};
 ghost use Rattle.turn_machine.specs.Times.{at};
 ghost use Rattle.turn_machine.specs.Runs.{initial_state};
@@ -11,7 +11,7 @@ ghost use Rattle.turn_allocations.specs.Answers.{answer_of};
 ghost use Rattle.turn_allocations.specs.Outputs.{sending, receiving, bouncing};
 ghost use Rattle.turn_allocations.specs.Requests.{asked};
 ghost use Rattle.turn_allocations.specs.Setups.{rules_of, setup_of};
-ghost use Rattle.turn_allocations.specs.Tables.{IsStep};
+ghost use Rattle.turn_allocations.specs.Tables.{IsStep, IsNextEnd};
 
 use crate::answer::Answer;
 use crate::client::client_of;
@@ -25,21 +25,25 @@ use std::alloc::{AllocError, Global};
 use std::marker::Model;
 use stun_endpoints::{Endpoint, FiveTuple};
 use turn_peers::PeerPolicy;
-use turn_relays::Relays;
+use turn_relays::{Relays, list_follows_slots, lists_have_slots};
 use turn_slots::UserId;
 
 /// The allocations of a TURN server (RFC 8656), each relayed address with at most `P` permissions and `C`
 /// channels.
 ///
-/// An allocation is identified by the client's 5-tuple, and has one relayed address, or one for IPv4 and
-/// one for IPv6. Each has a number, for its socket, which no other ever has.
+/// An allocation is identified by the client's 5-tuple, and has one relayed address, or one for IPv4 and one
+/// for IPv6 (RFC 8656, section 6). Each relayed address has a number, which names its socket and is never
+/// reused.
 ///
-/// Each call takes the caller's clock: nanoseconds since a beginning of its choice. A clock that steps back
-/// counts as stopped. At each call, what has expired ends first. [`Allocations::ended`] returns the numbers
-/// of the sockets that the last call ended, which the caller closes.
+/// A call with `now`, in nanoseconds from a beginning of the caller's choice, advances the clock and first
+/// ends what has expired. A clock that steps back counts as stopped. After the call, [`Allocations::ended`]
+/// returns the numbers of the sockets that it ended, which the caller closes.
 ///
-/// [`Allocations::new`] takes all memory; no other call allocates. The cost of a call doesn't depend on how
-/// many allocations there are.
+/// [`Allocations::new`] takes all memory; no other call allocates. Each relayed address that opens, is
+/// refreshed or ends takes up to log2 of `limits.relays` steps. Apart from that, the cost of a call doesn't
+/// depend on how many allocations there are. Permissions and channels of a relayed address are searched one
+/// by one. CreatePermission does so for each peer, and copies the permissions to the stack, 48 bytes for each
+/// of `P`, as ChannelBind does.
 ///
 /// ```
 /// use stun_endpoints::{Endpoint, FiveTuple, Ip};
@@ -98,11 +102,11 @@ impl<const P: usize, const C: usize> Model for Allocations<P, C> {
 }
 
 impl<const P: usize, const C: usize> Allocations<P, C> {
-    /// Makes one with no allocation and the clock at 0. `seed` keys the hashes of clients and users: pass
-    /// random numbers.
+    /// Makes an empty table with the clock at 0. `seed` keys the hashes of clients and users: pass random
+    /// numbers.
     ///
-    /// It takes all memory that it ever needs: for each of `limits.relays` 624 bytes, and 48 for each of `P`
-    /// permissions and 80 for each of `C` channels, whether they are used or not.
+    /// It takes all memory that the table ever needs: for each of `limits.relays` 624 bytes, and 48 for each
+    /// of `P` permissions and 80 for each of `C` channels, whether they are used or not.
     ///
     /// # Requires
     ///
@@ -126,15 +130,51 @@ impl<const P: usize, const C: usize> Allocations<P, C> {
         })
     }
 
-    /// Returns what the caller set.
+    /// Returns the limits that the caller passed to [`Allocations::new`].
     pub fn limits(&self) -> Limits
         ensures { result ≡ self.now.limits }
     {
         self.limits
     }
 
-    /// Borrows the numbers of the sockets that the last call ended, in no particular order. The caller
-    /// closes them.
+    /// Returns a lower bound of the number of the next relayed address: it is above the numbers of all opened
+    /// so far. So a relayed address in an answer is new, and uses the socket that was ready, if and only if
+    /// its number is not below what this returned before the call.
+    pub fn next_number(&self) -> u64
+        ensures { result ≡ self.now.state.next }
+    {
+        self.relays.next_number()
+    }
+
+    /// Returns the number of relayed addresses, including those that have expired since the last call with
+    /// `now`. An allocation with an address of each family counts as two.
+    pub fn len(&self) -> usize
+        ensures { result ≡ length self.now.state.relays }
+    {
+        self.relays.len()
+    }
+
+    /// Returns the number of a user's relayed addresses, including those that have expired since the last
+    /// call with `now`. An allocation with an address of each family counts as two.
+    pub fn count_by_user(&self, user: UserId) -> usize
+        ensures { result ≡ count_by (is_users (user_number user)) self.now.state.relays }
+    {
+        self.relays.count_by_user(user)
+    }
+
+    /// Returns when the next relayed address expires, in nanoseconds of the caller's clock, or `None` if
+    /// there is none: until then [`Allocations::poll`] ends nothing.
+    pub fn next_due(&self) -> Option<u128>
+        ensures { MatchOption result (self.now.state.relays ≡ [])
+            (λ due. IsNextEnd due self.now.state.relays) }
+    {
+        list_follows_slots();
+        lists_have_slots();
+        self.relays.next_due()
+    }
+
+    /// Borrows the numbers of the sockets that the last call with `now` ended, in no particular order. Close
+    /// these sockets: the next such call clears the list.
     pub fn ended(&self) -> &[u64]
         ensures { result.now ≡ self.now.ended }
     {
@@ -162,25 +202,32 @@ impl<const P: usize, const C: usize> Allocations<P, C> {
 
     /// Answers a request of an authenticated user (RFC 8656, sections 7.2, 8.2, 10.2 and 12.2).
     ///
-    /// Refuses with the first of these that applies. A request that is refused changes nothing.
+    /// A request is refused with the first code that applies, and a refused request changes nothing.
     ///
-    /// Allocate: 437 if the client has an allocation, unless this user opened it with this transaction ID,
-    /// and then the answer is what the client has; 440 if the server has none of the families that it asks
-    /// for; 486 if the user has as many relayed addresses as one may have; 508 if there is no room, or no
-    /// socket is ready for a family that the server has, or numbers are used up, after at least 2^38
-    /// allocations. Else it gets all that can be had of what it asks for.
+    /// Allocate: 437 if the client has an allocation, unless this user opened it with this transaction ID;
+    /// 440 if the server relays none of the families that the request asks for; 486 if the user has `of_user`
+    /// relayed addresses; 508 if the server has `relays` relayed addresses, or no socket is ready for a
+    /// family that it relays, or numbers are used up, after at least 2^38 allocations. Otherwise the client
+    /// gets each relayed address that it asks for and can have, for LIFETIME, but at least 600 seconds and at
+    /// most `greatest_lifetime`, or 600 without LIFETIME. A retransmission, which has the
+    /// user and the transaction ID of the first request, is answered with what the client has.
     ///
-    /// All others: 437 if the client has no allocation, and 441 if it is another user's.
+    /// All other requests: 437 if the client has no allocation, and 441 if it is another user's.
     ///
-    /// Refresh: 443 if the client has no relayed address of the family that it names. A lifetime of 0 ends
-    /// what it names.
+    /// Refresh: 443 if the client has no relayed address of the family that the request names. A lifetime of
+    /// 0 ends the relayed address of that family, or all without a family; any other is bounded as for
+    /// Allocate.
     ///
     /// CreatePermission: 508 if there are more than 64 peers; 443 if the client has no relayed address of a
-    /// peer's family; 403 if a peer is forbidden; 508 if there is no room for all.
+    /// peer's family; 403 if a peer's IP address is forbidden; 508 if there is no room for all permissions.
+    /// They last 300 seconds.
     ///
-    /// ChannelBind: 400 if the number is not a channel's, or the number or the peer is bound otherwise; 443 if
-    /// the client has no relayed address of the peer's family; 403 if the peer or its port is forbidden; 508
-    /// if there is no room for the permission or the channel.
+    /// ChannelBind: 400 if the channel number is out of range, or it is bound to another peer, or the peer to
+    /// another number; 443 if the client has no relayed address of the peer's family; 403 if the peer's IP
+    /// address or port is forbidden; 508 if there is no room for the permission or the channel. The channel
+    /// lasts 600 seconds.
+    ///
+    /// The policy forbids an IP address or a port; Teredo and 6to4 addresses are always forbidden.
     pub fn request<A: PeerPolicy>(
         &mut self,
         now: u64,
@@ -206,10 +253,12 @@ impl<const P: usize, const C: usize> Allocations<P, C> {
         )
     }
 
-    /// Returns the peer that the data of a Send indication goes to (RFC 8656, section 11.2).
+    /// Returns where the data of a Send indication goes (RFC 8656, section 11.2). `dont_fragment` is whether
+    /// the indication has DONT-FRAGMENT.
     ///
-    /// `None` if it is dropped: the client has no relayed address of the peer's family, or no permission for
-    /// its IP address, or the peer or its port is forbidden, or the DF bit is wanted and can't be set.
+    /// Returns `None` if the data is dropped: the client has no relayed address of the peer's family, or no
+    /// permission for the peer's IP address, or the peer's IP address or port is forbidden, or the indication
+    /// has DONT-FRAGMENT and the server can't set the DF bit.
     pub fn on_send<A: PeerPolicy>(
         &mut self,
         now: u64,
@@ -233,10 +282,10 @@ impl<const P: usize, const C: usize> Allocations<P, C> {
         )
     }
 
-    /// Returns the peer that the data of a ChannelData message goes to (RFC 8656, section 12.6).
+    /// Returns where the data of a ChannelData message goes (RFC 8656, section 12.6).
     ///
-    /// `None` if it is dropped: the channel is not bound, or the peer or its port is forbidden. No permission
-    /// is needed.
+    /// Returns `None` if the data is dropped: the channel isn't bound, or the peer's IP address or port is
+    /// forbidden. The client needs no permission, as section 12.6 requires none.
     pub fn on_channel_data<A: PeerPolicy>(
         &mut self,
         now: u64,
@@ -252,11 +301,11 @@ impl<const P: usize, const C: usize> Allocations<P, C> {
         send_on(&self.relays, tuple, channel, policy)
     }
 
-    /// Returns the client that a peer's datagram goes to, by the number of the socket that it came to (RFC
-    /// 8656, sections 11.3 and 12.7).
+    /// Returns where a peer's datagram goes (RFC 8656, sections 11.3 and 12.7). `number` is that of the
+    /// socket that received it, and `peer` its source.
     ///
-    /// `None` if it is dropped: no relayed address has the number, or there is no permission for the peer's
-    /// IP address, or that address is forbidden.
+    /// Returns `None` if the datagram is dropped: no relayed address has the number, or there is no
+    /// permission for the peer's IP address, or that address is forbidden. Its port is not checked.
     pub fn on_peer_data<A: PeerPolicy>(
         &mut self,
         now: u64,
@@ -272,11 +321,13 @@ impl<const P: usize, const C: usize> Allocations<P, C> {
         receive(&self.relays, number, peer, policy)
     }
 
-    /// Returns the client that an ICMP packet goes to, in a Data indication with ICMP (RFC 8656, section
-    /// 11.5). It came to the socket with this number, about a datagram that went to `peer`.
+    /// Returns the 5-tuple of the client that an ICMP packet goes to, in a Data indication with an ICMP
+    /// attribute (RFC 8656, section 11.5). The packet is about a datagram that the socket with this number
+    /// sent to `peer`.
     ///
-    /// `None` if it is dropped: ICMP isn't relayed, or not of this type, or no relayed address has the number,
-    /// or there is no permission for the peer's IP address, or that address is forbidden.
+    /// Returns `None` if the packet is dropped: the server doesn't relay ICMP; or the type isn't 3 or 11 for
+    /// an IPv4 peer, or 1, 2 or 3 for an IPv6 peer; or no relayed address has the number; or there is no
+    /// permission for the peer's IP address, or that address is forbidden.
     pub fn on_icmp<A: PeerPolicy>(
         &mut self,
         now: u64,
@@ -293,8 +344,9 @@ impl<const P: usize, const C: usize> Allocations<P, C> {
         bounce(&self.relays, &self.limits, number, peer, icmp_type, policy)
     }
 
-    /// Ends the relayed address with a number, for example that of a client whose connection is closed. Ends
-    /// nothing more if no relayed address has it.
+    /// Ends the relayed address with a number, for example if the client's connection is closed, and those
+    /// that have expired. An allocation with an address of each family has two numbers. A number that no
+    /// relayed address has ends nothing.
     pub fn end(&mut self, now: u64, number: u64)
         ensures { (rules : Rules) → IsStep (setup_of self.old.limits P C) rules self.old now (ends number)
             nothing self.new }
@@ -303,7 +355,7 @@ impl<const P: usize, const C: usize> Allocations<P, C> {
         end_number(&mut self.relays, &mut self.ended, number);
     }
 
-    /// Ends all relayed addresses of a user, for example of one who is revoked.
+    /// Ends all relayed addresses of a user, for example if the user is revoked, and those that have expired.
     pub fn end_user(&mut self, now: u64, user: UserId)
         ensures { (rules : Rules) → IsStep (setup_of self.old.limits P C) rules self.old now
             (ends_user (user_number user)) nothing self.new }
@@ -312,7 +364,7 @@ impl<const P: usize, const C: usize> Allocations<P, C> {
         end_users(&mut self.relays, &mut self.ended, user);
     }
 
-    /// Ends what has expired.
+    /// Ends all relayed addresses that have expired. Call it at [`Allocations::next_due`] or later.
     pub fn poll(&mut self, now: u64)
         ensures { (rules : Rules) → IsStep (setup_of self.old.limits P C) rules self.old now ticks nothing
             self.new }

@@ -28,7 +28,7 @@ use turn_peers::PeerPolicy;
 use turn_relays::{Relays, list_follows_slots, lists_have_slots};
 use turn_slots::UserId;
 
-/// Whether a number may be a channel's.
+/// Whether a number is in the range of channel numbers.
 fn is_channel_number(limits: &Limits, number: u16) -> bool
     ensures { (permissions channels : ℕ)
         → result ≡ is_channel_number (setup_of limits.now permissions channels) number }
@@ -84,7 +84,7 @@ fn clashes<const P: usize, const C: usize>(
     clashes_in(relays, client.ipv4, number, peer) | clashes_in(relays, client.ipv6, number, peer)
 }
 
-/// Why the client's user may not bind a number to a peer.
+/// Why the client's user may not bind a number to a peer, or `None` if it may.
 fn bind_fault<const P: usize, const C: usize, A: PeerPolicy>(
     relays: &Relays<P, C>,
     limits: &Limits,
@@ -120,8 +120,8 @@ fn bind_fault<const P: usize, const C: usize, A: PeerPolicy>(
     None
 }
 
-/// Binds a number to a peer in the relayed address in a place, with a permission of so many seconds, if
-/// there is one and it has room.
+/// Binds a number to a peer in the relayed address in a place, with a permission that lasts `lifetime`
+/// seconds, if there is one and it has room.
 fn bind_in<const P: usize, const C: usize>(
     relays: &mut Relays<P, C>,
     place: Option<Place>,

@@ -69,7 +69,7 @@ pub(crate) fn client_of<const P: usize, const C: usize>(
     }
 }
 
-/// Whether two are one user.
+/// Whether two users are the same.
 fn is_same(one: UserId, other: UserId) -> bool
     ensures { result ≡ (user_number one == user_number other) }
 {
@@ -86,7 +86,7 @@ fn is_anothers(place: Option<Place>, user: UserId) -> bool
     }
 }
 
-/// Whether there is a place, and a request of a user opened it.
+/// Whether there is a place, and the user's request with this transaction ID opened it.
 fn is_opened_by(place: Option<Place>, user: UserId, id: u128) -> bool
     ensures { result ≡ place_any (λ i. (i.user == user_number user) && (i.opened_by == id)) place }
 {
@@ -107,7 +107,7 @@ fn earlier(one: Option<u128>, other: Option<u128>) -> Option<u128>
     }
 }
 
-/// When what is in a place ends.
+/// When the relayed address in a place expires.
 fn end_of(place: Option<Place>) -> Option<u128>
     ensures { result ≡ option_map (λ p. p.relayed.until) place }
 {
@@ -131,7 +131,7 @@ fn given(place: Option<Place>) -> Option<Given>
 }
 
 impl Client {
-    /// Whether the client has none.
+    /// Whether the client has no relayed address.
     pub(crate) fn is_none(&self) -> bool
         ensures { (t : Table) (tuple : FiveTuple) → Owns t tuple self.now
             → result ≡ not (has_any tuple (state_of t)) }
@@ -139,7 +139,7 @@ impl Client {
         !(self.ipv4.is_some() | self.ipv6.is_some())
     }
 
-    /// Whether one belongs to another user.
+    /// Whether one of them belongs to another user.
     pub(crate) fn is_anothers(&self, user: UserId) -> bool
         ensures { (t : Table) (tuple : FiveTuple) → Owns t tuple self.now
             → result ≡ has_of_another tuple (user_number user) (state_of t) }
@@ -147,7 +147,7 @@ impl Client {
         is_anothers(self.ipv4, user) | is_anothers(self.ipv6, user)
     }
 
-    /// Whether one is the user's and was opened by a request.
+    /// Whether the user's request with this transaction ID opened one of them.
     pub(crate) fn is_opened_by(&self, user: UserId, id: u128) -> bool
         ensures { (t : Table) (tuple : FiveTuple) → Owns t tuple self.now
             → result ≡ list_any (λ a. is_owned tuple (user_number user) a && (a.opened_by == id))
@@ -175,7 +175,7 @@ impl Client {
         None
     }
 
-    /// Whether the client has one of a family, or a family isn't given.
+    /// Whether the client has a relayed address of the family, or no family is given.
     pub(crate) fn has_wanted(&self, family: Option<u8>) -> bool
         ensures { (t : Table) (tuple : FiveTuple) → Owns t tuple self.now
             → result ≡ has_wanted tuple family (state_of t) }
@@ -186,7 +186,7 @@ impl Client {
         }
     }
 
-    /// When the first of them ends.
+    /// When the first of them expires.
     pub(crate) fn first_end(&self) -> Option<u128>
         ensures { (t : Table) (tuple : FiveTuple) → Owns t tuple self.now
             → result ≡ first_end tuple (state_of t).relays }

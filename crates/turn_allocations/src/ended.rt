@@ -1,9 +1,9 @@
-//! The numbers of the sockets that a call closes.
+//! The numbers of the sockets that a call ends.
 
 use std::alloc::{AllocError, Global};
 use std::marker::Model;
 
-/// Numbers, as many as there is memory for.
+/// A list of numbers with a fixed capacity.
 #[derive(Drop)]
 pub(crate) struct Ended {
     numbers: Vec<u64>,
@@ -42,14 +42,14 @@ impl Ended {
         Ok(Ended { numbers, count: 0 })
     }
 
-    /// Removes all.
+    /// Removes all numbers.
     pub(crate) fn clear(&mut self)
         ensures { self.new ≡ record self.old { numbers = [] } }
     {
         self.count = 0;
     }
 
-    /// Appends a number.
+    /// Appends a number, for which there is room.
     pub(crate) fn push(&mut self, number: u64)
         requires { length self.old.numbers < self.old.room }
         ensures { self.new ≡ record self.old { numbers = self.old.numbers ++ number ∷ [] } }

@@ -1,8 +1,12 @@
 //! The allocations of a TURN server (RFC 8656), without bytes, sockets or a clock.
 //!
-//! [`Allocations`] does what the state machine of `turn_machine` does: each of its calls is one step, and
-//! its contract is that equation. The machine's laws say what that grants to users, what it refuses, and
-//! which data it relays.
+//! [`Allocations`] answers authenticated requests, and returns where data and ICMP packets go. The caller
+//! does the rest: it parses and authenticates messages, writes responses, opens and closes sockets, and
+//! passes the time.
+//!
+//! Each call with `now` is one step of the state machine of `turn_machine`: that equation is its
+//! contract. The laws of the machine state which requests it grants, which it refuses, and which data it
+//! relays.
 #![tactic(auto)]
 
 mod allocating;
@@ -12,6 +16,7 @@ mod binding;
 mod client;
 mod ended;
 mod families;
+mod laws;
 mod limits;
 mod owning;
 mod permitting;
@@ -24,6 +29,7 @@ mod sweeping;
 pub use allocations::Allocations;
 pub use answer::{Answer, Given, Refusal};
 pub use families::Families;
+pub use laws::calls_are_a_run;
 pub use limits::Limits;
 pub use relaying::{ToClient, ToPeer};
 pub use request::{Request, Want};

@@ -1,39 +1,47 @@
-//! What the caller sets once.
+//! Limits and options of a server.
 
 use crate::families::Families;
 
-/// What the caller sets when it makes [`Allocations`](crate::Allocations): bounds, what the server can do,
-/// and two departures from RFC 8656 for clients that need them.
+/// The limits and options of [`Allocations`](crate::Allocations), which the caller sets once: bounds, what
+/// the server can do, and two departures from RFC 8656 for clients that need them.
 #[derive(Clone, Copy, Debug, PartialEq, Eq)]
 pub struct Limits {
-    /// The most relayed addresses at a time: an Allocate request beyond it is refused with 508.
+    /// The most relayed addresses at a time, below 2^24. If there are as many, an Allocate request is refused
+    /// with 508. An allocation with an address of each family counts as two.
     pub relays: u32,
-    /// The most relayed addresses of one user: an Allocate request beyond it is refused with 486. An
-    /// allocation with an address of each family counts as two.
+    /// The most relayed addresses of one user at a time. If the user has as many, an Allocate request is
+    /// refused with 486. If one more is allowed, a request for both families gets one address, and 508 as the
+    /// reason for the family that is missing.
     pub of_user: u32,
-    /// The most sockets that are reserved at a time, for EVEN-PORT with its R bit (RFC 8656, section 7.2): an
-    /// Allocate request beyond it is refused with 508. 0 reserves none. A user never has more than `of_user`
-    /// of them. [`Allocations`](crate::Allocations) alone reserves none.
+    /// The most reserved sockets at a time, for EVEN-PORT with its R bit (RFC 8656, section 7.2), and at most
+    /// `of_user` of one user. An Allocate request beyond it is refused with 508. 0 reserves none.
+    ///
+    /// [`Allocations`](crate::Allocations) makes no reservations, and doesn't read this.
     pub reservations: u32,
-    /// The greatest lifetime in seconds: RFC 8656, section 7.2, recommends at most 3600. A value below 600
-    /// counts as 600.
+    /// The longest lifetime of an allocation, in seconds: RFC 8656, section 7.2, recommends at most 3600. A
+    /// value below 600, the default lifetime, counts as 600.
     pub greatest_lifetime: u32,
-    /// The families that the server relays. A request for another is refused with 440.
+    /// The address families that the server relays. An Allocate request for another family is refused with
+    /// 440. A request for both families gets the one that is relayed, and 440 as the reason for the other.
     pub families: Families<bool>,
-    /// Whether the server can set the DF bit of what it sends to peers (RFC 8656, section 14). If not, a Send
-    /// indication with DONT-FRAGMENT is dropped.
+    /// Whether the server can set the DF bit of datagrams to peers (RFC 8656, section 14). If not, a Send
+    /// indication with DONT-FRAGMENT is dropped, and the caller rejects an Allocate request with
+    /// DONT-FRAGMENT with 420 (section 7.2).
     pub dont_fragment: bool,
-    /// Whether ICMP packets are relayed (RFC 8656, section 11.5).
+    /// Whether the server relays ICMP packets to clients (RFC 8656, section 11.5). If not,
+    /// [`on_icmp`](crate::Allocations::on_icmp) drops them all.
     pub icmp: bool,
-    /// Whether the permission that a ChannelBind request installs lasts as long as the channel, 600 seconds.
-    /// By RFC 8656 it lasts 300 (section 9), but some clients refresh only their channels.
+    /// Whether the permission that a ChannelBind request installs lasts 600 seconds, as long as the channel.
+    /// By RFC 8656, section 9, it lasts 300, but some clients refresh only their channels. A later
+    /// CreatePermission request for the same IP address sets it to 300 seconds again.
     pub channel_permits: bool,
-    /// Whether channel numbers from 0x5000 to 0x7FFF are allowed too, as RFC 5766 has them.
+    /// Whether channel numbers from 0x5000 to 0x7FFF are valid too, as in RFC 5766. RFC 8656, section 12, has
+    /// only 0x4000 to 0x4FFF.
     pub old_channels: bool,
 }
 
-/// 4,096 relayed addresses of either family, at most 64 of one user, for at most an hour, 64 reserved sockets,
-/// and the rules of RFC 8656, without DONT-FRAGMENT and ICMP.
+/// At most 4,096 relayed addresses, 64 of one user, lifetimes up to an hour, and 64 reserved sockets: both
+/// families, by the rules of RFC 8656, without DONT-FRAGMENT and ICMP.
 impl Default for Limits {
     ghost use Rattle.std.specs.Prelude.{◌≡◌, true, false};
 

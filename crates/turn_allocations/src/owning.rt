@@ -1,4 +1,4 @@
-//! Whose an allocation is (RFC 8656, section 5).
+//! The owner of an allocation (RFC 8656, section 5).
 
 ghost use Rattle.std.specs.Prelude.{◌≡◌, ℕ, Option};
 ghost use Rattle.std.specs.Option.{option_map};
@@ -14,7 +14,8 @@ use crate::answer::Refusal;
 use crate::client::Client;
 use turn_slots::UserId;
 
-/// Why a user's request about a client's allocation is refused whatever it asks for.
+/// Why a request other than Allocate is refused whatever it asks for: the client has no allocation, or it
+/// belongs to another user.
 pub(crate) fn owner_fault(client: &Client, user: UserId) -> Option<Refusal>
     ensures { (t : Table) (tuple : FiveTuple) (others : Option ℕ) → Owns t tuple client.now
         → own_rows tuple (user_number user) (state_of t) others

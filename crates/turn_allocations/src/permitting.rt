@@ -82,7 +82,7 @@ pub(crate) fn lacks_permissions<const P: usize, const C: usize>(
         | lacks_permissions_in(relays, client.ipv6, peers)
 }
 
-/// Why the client's user may not have permissions for peers.
+/// Why the client's user may not have permissions for peers, or `None` if it may.
 fn permit_fault<const P: usize, const C: usize, A: PeerPolicy>(
     relays: &Relays<P, C>,
     client: &Client,

@@ -26,7 +26,7 @@ use turn_slots::UserId;
 /// Nanoseconds of a second.
 const SECOND: u128 = 1_000_000_000;
 
-/// The lifetime that is granted, in seconds.
+/// The lifetime that is granted, in seconds: 0 if the request asks for 0.
 fn refreshed_for(wanted: Option<u32>, greatest: u32) -> u32
     ensures { result ≡ refreshed_for wanted greatest }
 {
@@ -37,7 +37,7 @@ fn refreshed_for(wanted: Option<u32>, greatest: u32) -> u32
     }
 }
 
-/// The place of a family, if a request is for it.
+/// The place of the family `of`, if a Refresh request with this family, or with none, is for it.
 fn if_wanted(place: Option<Place>, of: u8, family: Option<u8>) -> Option<Place>
     ensures { result ≡ if_wanted place of family }
 {
@@ -88,7 +88,7 @@ fn end_wanted<const P: usize, const C: usize>(
     end_in(relays, ended, if_wanted(client.ipv6, 2, family));
 }
 
-/// Gives the relayed address in a place another end, if there is one.
+/// Sets when the relayed address in a place expires, if there is one.
 fn set_end_in<const P: usize, const C: usize>(
     relays: &mut Relays<P, C>,
     place: Option<Place>,
@@ -102,7 +102,7 @@ fn set_end_in<const P: usize, const C: usize>(
     }
 }
 
-/// Gives a client's relayed addresses of the families that a request is for another end.
+/// Sets when a client's relayed addresses of the families that a request is for expire.
 fn set_ends<const P: usize, const C: usize>(
     relays: &mut Relays<P, C>,
     client: &Client,

@@ -19,23 +19,24 @@ use stun_endpoints::{Endpoint, FiveTuple, Ip};
 use turn_peers::PeerPolicy;
 use turn_relays::{Relays, list_follows_slots, users_are_numbers};
 
-/// Where data of a client goes: from the socket of this number to a peer.
+/// The destination of a client's data: from a socket to a peer.
 #[derive(Clone, Copy, Debug, PartialEq, Eq)]
 pub struct ToPeer {
-    /// The number of the socket.
+    /// The number of the socket that sends it.
     pub number: u64,
-    /// The peer.
+    /// The peer that it is sent to.
     pub peer: Endpoint,
-    /// Whether to set the DF bit (RFC 8656, section 14).
+    /// Whether to set the DF bit (RFC 8656, section 14): always `false` for ChannelData.
     pub dont_fragment: bool,
 }
 
-/// Where data of a peer goes: to the client, on a channel or in a Data indication.
+/// The destination of a peer's data: to a client, as ChannelData or in a Data indication.
 #[derive(Clone, Copy, Debug, PartialEq, Eq)]
 pub struct ToClient {
-    /// The 5-tuple of the client.
+    /// The 5-tuple on which it is sent to the client.
     pub tuple: FiveTuple,
-    /// The channel that is bound to the peer; `None` for a Data indication.
+    /// The number of the channel that is bound to the peer's IP address and port, or `None` for a Data
+    /// indication.
     pub channel: Option<u16>,
 }
 
@@ -228,7 +229,8 @@ pub(crate) fn receive<const P: usize, const C: usize, A: PeerPolicy>(
     })
 }
 
-/// Whether ICMP of a type about a datagram of a family is relayed (RFC 8656, section 11.5).
+/// Whether ICMP packets of a type, about a datagram to a peer of a family, are relayed (RFC 8656, section
+/// 11.5).
 fn is_passed(family: u8, icmp_type: u8) -> bool
     ensures { (icmp : Icmp) → icmp.type_number ≡ icmp_type → result ≡ is_passed family icmp }
 {
@@ -238,7 +240,8 @@ fn is_passed(family: u8, icmp_type: u8) -> bool
     }
 }
 
-/// Whether ICMP of a type about a datagram to a peer goes on to the client of the relayed address in a slot.
+/// Whether an ICMP packet of a type, about a datagram from the relayed address in a slot to a peer, is
+/// relayed to the client.
 fn may_bounce<const P: usize, const C: usize, A: PeerPolicy>(
     relays: &Relays<P, C>,
     limits: &Limits,
@@ -257,7 +260,7 @@ fn may_bounce<const P: usize, const C: usize, A: PeerPolicy>(
         && may_receive(relays, slot, peer.ip, policy)
 }
 
-/// The client that ICMP about a datagram to a peer goes to, by the number of the socket that sent it.
+/// The client that an ICMP packet goes to, about a datagram to a peer from the socket with this number.
 pub(crate) fn bounce<const P: usize, const C: usize, A: PeerPolicy>(
     relays: &Relays<P, C>,
     limits: &Limits,

@@ -1,4 +1,4 @@
-//! What ends relayed addresses: time, and the caller.
+//! Ending relayed addresses: those that have expired, and those that the caller ends.
 
 ghost use Rattle.std.specs.Prelude.{◌≡◌, ◌+◌, ◌≤◌, ◌++◌, ◌∷◌, [], Bool, None, MatchOption, length};
 ghost use Rattle.turn_slots.specs.Users.{user_number};
@@ -14,7 +14,7 @@ use crate::ended::Ended;
 use turn_relays::{Relays, list_follows_slots, lists_have_slots};
 use turn_slots::UserId;
 
-/// Ends what has expired, once the clock is advanced.
+/// Ends what has expired by the clock.
 fn end_expired<const P: usize, const C: usize>(relays: &mut Relays<P, C>, ended: &mut Ended)
     requires { length ended.old.numbers + length (state_of relays.old).relays ≤ ended.old.room }
     ensures left { Becomes relays.old relays.new (at relays.old.clock (state_of relays.old)) }
@@ -32,7 +32,7 @@ fn end_expired<const P: usize, const C: usize>(relays: &mut Relays<P, C>, ended:
     }
 }
 
-/// Advances the clock, and ends what has expired then.
+/// Advances the clock, and ends what has expired. The numbers of earlier calls are removed.
 pub(crate) fn sweep<const P: usize, const C: usize>(
     relays: &mut Relays<P, C>,
     ended: &mut Ended,

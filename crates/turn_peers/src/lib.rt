@@ -1,10 +1,12 @@
 //! Which peers a TURN server relays to (RFC 8656, section 21).
 //!
-//! A server that relays to any address lets its clients reach what only its own host or network
-//! should reach. [`Peers`] is what it allows: every address but those in [`DENIED_BY_DEFAULT`], with
-//! prefixes of the caller's choice, and the addresses on which it listens itself. A server asks any
-//! [`PeerPolicy`]. It relays to no address of a tunnel to IPv6, whatever the policy allows:
-//! [`is_tunnelled`] (section 21.4).
+//! A server that relays to any address lets its clients reach services that only its own host or network
+//! should reach. So it asks a [`PeerPolicy`] about each peer.
+//!
+//! [`Peers`] is such a policy. It denies the prefixes in [`DENIED_BY_DEFAULT`], prefixes of the caller's
+//! choice, and the addresses and ports on which the server listens, and allows all other peers. The caller
+//! can also allow prefixes: of those that contain an address, the longest decides. Whatever the policy
+//! allows, a server doesn't relay to Teredo and 6to4 addresses: [`is_tunnelled`] (section 21.4).
 //!
 //! # Examples
 //!
@@ -13,7 +15,7 @@
 //! use stun_endpoints::Ip;
 //! use turn_peers::{PeerPolicy, Peers, is_tunnelled};
 //!
-//! // The peers of this server may be in the office's network too.
+//! // Peers may also be in the office's network.
 //! let allowed = ["10.1.0.0/16".parse()?, "2002::/16".parse()?];
 //! let own = ["198.51.100.7:3478".parse()?];
 //! let peers = Peers { denied: &[], allowed: &allowed, listening: &own };

@@ -1,4 +1,4 @@
--- What is so of the relayed addresses at all times, and which of them ends first.
+-- Invariants of the relayed addresses (RFC 8656, section 6), and the first of them to end.
 use Rattle.std.specs.Prelude.{◌≡◌, ℕ, ◌≤◌, true}
 use Rattle.turn_machine.specs.Relays.{Relay, is_for}
 use Rattle.turn_relays.specs.Relayed.{Table, Holds, Each}

@@ -1,4 +1,4 @@
--- The machine's list of relayed addresses has exactly what is in the slots, the newest first.
+-- The machine's list of relayed addresses has exactly those in the slots, the newest first.
 use Rattle.std.specs.Prelude.{◌≡◌, ◌⊎◌, ℕ, ◌<◌, ◌≤◌, Bool, true, List, [], ◌∷◌, filter, Option, None, Some, length, slice_index_or}
 use Rattle.std.specs.List.{AllByRecursion}
 use Rattle.turn_machine.specs.Relays.{Relay}
@@ -8,9 +8,9 @@ use Rattle.turn_relays.specs.Following.{listed, EachOf}
 abbrev pub HasAt : List (Option Relay) → (slot : ℕ) → Relay → Type 0
 HasAt slots slot r = slice_index_or slots slot None ≡ Some r
 
--- If all in the slots pass a test, all in the list do, and the converse. If one alone passes a test, the
--- list of those that do is that one; if two do, the newer comes first. The list is no longer than
--- the slots are many, and as long if no slot is free
+-- All relayed addresses in the slots pass a test if and only if all in the list do. If exactly one passes
+-- a test, filtering the list by it leaves that one; if exactly two do, it leaves both, the newer first. The
+-- list has at most as many relayed addresses as there are slots, and as many if no slot is free
 pub record ListHasSlots : Type 0 where
   pub all : (slots : List (Option Relay)) (test : Relay → Bool)
       → EachOf slots (λ _ r. test r ≡ true) → AllByRecursion (λ r. test r ≡ true) (listed slots)

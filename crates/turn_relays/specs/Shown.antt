@@ -1,14 +1,14 @@
--- What `Relays::get` returns of a relayed address.
+-- What `Relays::get` returns.
 use Rattle.std.specs.Prelude.{ℕ, ◌/◌, ◌%◌, ◌^◌}
 use Rattle.turn_slots.specs.declared.users.UserId.{UserId}
 use Rattle.turn_machine.specs.Relays.{Relay}
 use Rattle.turn_relays.specs.declared.relayed.Relayed.{Relayed}
 
--- the user whose number this is: its upper bits, and its lower 128
+-- the user with this number: its bits from 128 on, and its low 128 bits
 abbrev pub user_of_number : ℕ → UserId
 user_of_number number = record { high = number / 2 ^ 128; low = number % 2 ^ 128 }
 
--- all but the permissions and the channels
+-- a relayed address without its permissions and channels
 abbrev pub relayed_of : Relay → Relayed
 relayed_of r = record {
   key = record { tuple = r.tuple; family = r.family };

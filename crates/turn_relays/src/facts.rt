@@ -1,4 +1,4 @@
-//! What is so of all relayed addresses at any time, for proofs about callers.
+//! Invariants of the relayed addresses, for proofs about callers.
 
 ghost use Rattle.std.specs.Prelude.{◌≡◌, ◌<◌};
 ghost use Rattle.turn_slots.specs.Deadlines.{never};
@@ -15,7 +15,7 @@ impl<const P: usize, const C: usize> Relays<P, C> {
         let _ = &self.clock;
     }
 
-    /// No client has two relayed addresses of one family (RFC 8656, section 5). The call does nothing: its
+    /// No client has two relayed addresses of one family (RFC 8656, section 7.2). The call does nothing: its
     /// contract is the law.
     pub fn keys_are_distinct(&self)
         ensures { KeysAreDistinct self.now }
@@ -23,16 +23,16 @@ impl<const P: usize, const C: usize> Relays<P, C> {
         let _ = &self.clock;
     }
 
-    /// Each number is below that of the next relayed address. The call does nothing: its contract is the
-    /// law.
+    /// Each number is below what [`Relays::next_number`] returns, and so below that of the next relayed
+    /// address. The call does nothing: its contract is the law.
     pub fn numbers_are_below_next(&self)
         ensures { Each self.now (λ r. r.number < self.now.next) }
     {
         let _ = &self.clock;
     }
 
-    /// Each end is before the last moment, as [`Relays::set_end`] requires. The call does nothing: its
-    /// contract is the law.
+    /// Each relayed address ends before `u128::MAX`, as [`Relays::set_end`] requires. The call does nothing:
+    /// its contract is the law.
     pub fn ends_are_possible(&self)
         ensures { Each self.now (λ r. r.until < never) }
     {

@@ -172,14 +172,18 @@ impl<const P: usize, const C: usize> Relays<P, C> {
         }
     }
 
-    /// Binds a channel of 600 seconds to a peer of the family of the relayed address in a slot, and inserts a
+    /// Binds a channel number to a peer for 600 seconds in the relayed address in a slot, and inserts a
     /// permission for the peer's IP address, as a ChannelBind request does (RFC 8656, sections 9 and 12.2).
     ///
-    /// The permission lasts `permission_seconds`: 300 by section 9. It replaces one for the same IP address,
-    /// and the channel replaces one with the same number. Permissions and channels that have expired are
-    /// removed. Another binding of the number or of the peer is not looked for: [`Relays::clashes`] does.
+    /// The permission lasts `permission_seconds`, 300 by section 9, and replaces one for the same IP address,
+    /// even if that expires later. The channel replaces one with the same number. Permissions and channels
+    /// that have expired are removed.
     ///
-    /// Changes nothing if the peer is of another family, or the slot is free or not below the capacity.
+    /// The call checks neither the range of the number, nor whether the number or the peer is bound
+    /// otherwise, which [`Relays::clashes`] returns.
+    ///
+    /// Changes nothing if the relayed address is of another family than the peer, or the slot is free or not
+    /// below the capacity.
     ///
     /// # Requires
     ///

@@ -10,9 +10,10 @@ pub fn list_follows_slots()
     ensures { ListFollowsSlots }
 {}
 
-/// The list of relayed addresses has exactly what is in the slots: what is true of each slot's is true of
-/// each of the list, and the converse. Of those that pass a test, if they are one or two, it has the newer
-/// first. It is no longer than the number of slots, and as long if no slot is free.
+/// The list of relayed addresses has exactly those in the slots: a test is true of all in the slots if and
+/// only if it is true of all in the list. If exactly one or two pass a test, the list filtered by it has just
+/// these, the newer first. The list has at most as many relayed addresses as there are slots, and as many if
+/// no slot is free.
 pub fn lists_have_slots()
     ensures { ListHasSlots }
 {}

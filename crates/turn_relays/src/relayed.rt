@@ -1,4 +1,4 @@
-//! What a relayed address is, without what it grants to peers.
+//! Relayed addresses without their permissions and channels.
 
 ghost use Rattle.std.specs.Prelude.{◌≡◌, ℕ, ◌==◌, None, option_map, slice_index_or};
 ghost use Rattle.turn_slots.specs.Users.{is_user, user_number};
@@ -10,25 +10,25 @@ use crate::relays::Relays;
 use stun_endpoints::Endpoint;
 use turn_slots::{Entry, RelayKey, UserId};
 
-/// What a relayed address is, without its permissions and channels: see [`Relays::get`].
+/// A relayed address without its permissions and channels: a copy, which [`Relays::get`] returns.
 #[derive(Clone, Copy, Debug, PartialEq, Eq)]
 pub struct Relayed {
-    /// The client, and the family of the relayed address.
+    /// The 5-tuple of the client, and the family of the relayed address.
     pub key: RelayKey,
-    /// The user who opened it.
+    /// The user whose request opened it.
     pub user: UserId,
     /// The transaction ID of the request that opened it.
     pub opened_by: u128,
-    /// Its number, which is above the numbers of all opened before.
+    /// The number of its socket, above the numbers of all relayed addresses opened before.
     pub number: u64,
     /// The relayed transport address.
     pub address: Endpoint,
-    /// When it ends, in nanoseconds of the caller's clock.
+    /// When it expires, in nanoseconds of the caller's clock.
     pub until: u128,
 }
 
-/// A user is that of its number, and no other user has this number. So the users of two relayed addresses
-/// compare as their numbers do. The call does nothing: its contract is the law.
+/// Users and their numbers correspond one to one: two users are the same if and only if their numbers are
+/// equal. The call does nothing: its contract is the law.
 pub fn users_are_numbers(user: UserId)
     ensures user { user_of_number (user_number user) ≡ user }
     ensures number { (number : ℕ) → user_number (user_of_number number) ≡ number }
@@ -46,8 +46,8 @@ fn entry_at(entries: &[Option<Entry>], slot: usize) -> Option<Entry>
 }
 
 impl<const P: usize, const C: usize> Relays<P, C> {
-    /// Returns what the relayed address in a slot is, or `None` if the slot is free or not below the
-    /// capacity.
+    /// Returns the relayed address in a slot, without its permissions and channels, or `None` if the slot is
+    /// free or not below the capacity.
     ///
     /// ```
     /// use stun_endpoints::Endpoint;

@@ -165,8 +165,11 @@ impl<const P: usize, const C: usize> Relays<P, C> {
         self.clock
     }
 
-    /// Returns a number that is above those of all relayed addresses opened so far, and at most that of the
-    /// next, which is near: numbers last for 2^40 openings.
+    /// Returns a lower bound of the number of the next relayed address: it is above the numbers of all opened
+    /// so far.
+    ///
+    /// It is at most 2^24 times the number of openings so far, and less by at most 2^24. So numbers last for
+    /// 2^40 openings.
     pub fn next_number(&self) -> u64
         ensures next { result ≡ self.now.next }
         ensures last { NumbersLast self.now }
@@ -182,7 +185,7 @@ impl<const P: usize, const C: usize> Relays<P, C> {
         self.clock = self.clock.max(now as u128);
     }
 
-    /// Returns the most relayed addresses at a time: each slot is below this.
+    /// Returns the number of slots, which is the most relayed addresses at a time: each slot is below it.
     ///
     /// ```
     /// use turn_relays::Relays;
@@ -249,7 +252,8 @@ impl<const P: usize, const C: usize> Relays<P, C> {
         self.slots.find_by_number(number)
     }
 
-    /// Returns the slot of a relayed address of the user, or `None` if the user has none.
+    /// Returns the slot of one of the user's relayed addresses, or `None` if the user has none. Which one is
+    /// unspecified.
     pub fn find_by_user(&self, user: UserId) -> Option<usize>
         ensures some { IfSome result (λ slot. (r : Relay) × Holds self.now slot r
             × (is_users (user_number user) r ≡ true)) }
@@ -294,9 +298,10 @@ impl<const P: usize, const C: usize> Relays<P, C> {
         Some(number)
     }
 
-    /// Returns the earliest moment at which a relayed address ends, or `None` if there is no relayed address.
+    /// Returns the earliest end of all relayed addresses, in nanoseconds of the caller's clock, or `None` if
+    /// there are none.
     ///
-    /// If that is not after the clock, [`Relays::end_due`] ends one.
+    /// If it is not after the clock, [`Relays::end_due`] ends a relayed address.
     ///
     /// ```
     /// use stun_endpoints::Endpoint;

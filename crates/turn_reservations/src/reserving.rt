@@ -280,6 +280,17 @@ impl<const P: usize, const C: usize> ReservingAllocations<P, C> {
         self.allocations.limits()
     }
 
+    /// Borrows the allocations, to read more of them.
+    pub fn allocations(&self) -> &Allocations<P, C>
+        ensures { result.now ≡ record {
+          limits = self.now.limits;
+          state = self.now.holding.state;
+          ended = self.now.ended;
+        } }
+    {
+        &self.allocations
+    }
+
     /// Borrows the numbers of the sockets that the last call ended, in no particular order. The caller
     /// closes them.
     pub fn ended(&self) -> &[u64]
