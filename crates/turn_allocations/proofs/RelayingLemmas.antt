@@ -1,17 +1,18 @@
--- Data on a channel goes to the peer of the newest of the client's relayed addresses with this channel.
-use Rattle.std.proofs.Common.{◌≡◌, ℕ, Bool, true, false, cond, List, [], ◌∷◌, filter, find, Option, None, Some, refl, ap, ◌∙◌, subst}
+-- Of a client's relayed addresses the newest that is fit is taken: for data on a channel, the newest with the
+-- channel; for the family of the client, the newest that has not expired.
+use Rattle.std.proofs.Common.{◌≡◌, ℕ, Bool, true, false, cond, List, [], ◌∷◌, filter, find, Option, None, Some, refl, sym, ap, ◌∙◌, subst}
 use Rattle.std.specs.List.{AllByRecursion, list_any}
 use Rattle.std.specs.Option.{option_map, option_or}
-use Rattle.std.specs.Prelude.{◌&&◌, ◌||◌, option_and_then, is_some}
-use Rattle.std.proofs.lemmas.Bool.{cond_both, cond-false, and_left}
+use Rattle.std.specs.Prelude.{◌+◌, ◌&&◌, ◌||◌, ◌==◌, nat_le, IfSome, option_and_then, is_some}
+use Rattle.std.proofs.lemmas.Bool.{cond_both, cond-false, and_left, and_parts}
 use Rattle.stun_endpoints.specs.declared.endpoints.FiveTuple.{FiveTuple}
-use Rattle.turn_machine.specs.Relays.{Relay, is_of, is_channel}
+use Rattle.turn_machine.specs.Relays.{Relay, seconds, is_of, is_live, is_channel}
 use Rattle.turn_machine.specs.declared.grants.Channel.{Channel}
 use Rattle.turn_machine.specs.Data.{has_channel}
 use Rattle.turn_relays.specs.Relayed.{Table, state_of}
 use Rattle.turn_allocations.specs.declared.client.Place.{Place}
-use Rattle.turn_allocations.specs.Clients.{in_place}
-use Rattle.turn_allocations.specs.Outputs.{AreNewestFirst, listed_two, peer_by}
+use Rattle.turn_allocations.specs.Clients.{in_place, is_sound, lifetime_max, AreSound}
+use Rattle.turn_allocations.specs.Outputs.{AreNewestFirst, listed_two, live_family, peer_by}
 use Rattle.turn_allocations.proofs.OwnLemmas.{find_kept}
 
 -- ---- Lists
@@ -75,3 +76,64 @@ module _ (now channel : ℕ) (tuple : FiveTuple) where
       ap (option_and_then (peer_by now channel)) (find_kept (is_of tuple) (has_channel now tuple channel) of_client (state_of t).relays
       ∙ ap (find (has_channel now tuple channel)) newest.all)
       ∙ two_peers (in_place t one) (in_place t other) each
+
+-- ---- The family of the newest that has not expired
+
+module _ (now : ℕ) (tuple : FiveTuple) where
+  abbrev first_family : List Relay → Option ℕ
+  first_family [] = None
+  first_family (r ∷ rs) = option_or (live_family now r) (first_family rs)
+
+  of_live : (rs : List Relay) → option_map (λ (r : Relay). r.family) (find (is_of tuple) (filter (is_live now) rs)) ≡ first_family (filter (is_of tuple) rs)
+  of_live [] = refl
+  of_live (r ∷ rs) = both (of_live rs) (is_live now r) (is_of tuple r) refl refl
+    where
+      live : List Relay
+      live = filter (is_live now) rs
+
+      its : List Relay
+      its = filter (is_of tuple) rs
+
+      found : (b : Bool) → is_of tuple r ≡ b → option_map (λ (x : Relay). x.family) (find (is_of tuple) (r ∷ live)) ≡ option_map (λ (x : Relay). x.family) (cond b (Some r) (find (is_of tuple) live))
+      found b is = ap (λ (c : Bool). option_map (λ (x : Relay). x.family) (cond c (Some r) (find (is_of tuple) live))) is
+
+      first : (b : Bool) → is_live now r ≡ b → first_family (r ∷ its) ≡ option_or (cond b (Some r.family) None) (first_family its)
+      first b is = ap (λ (c : Bool). option_or (cond c (Some r.family) None) (first_family its)) is
+
+      both : option_map (λ (x : Relay). x.family) (find (is_of tuple) live) ≡ first_family its → (l o : Bool) → is_live now r ≡ l → is_of tuple r ≡ o → option_map (λ (x : Relay). x.family) (find (is_of tuple) (cond l (r ∷ live) live)) ≡ first_family (cond o (r ∷ its) its)
+      both more true true l o = found true o ∙ sym (first true l)
+      both more true false l o = found false o ∙ more
+      both more false true l o = more ∙ sym (first false l)
+      both more false false l o = more
+
+  two_families : (one other : Option Relay) → first_family (listed_two one other) ≡ option_or (option_and_then (live_family now) one) (option_and_then (live_family now) other)
+  two_families None None = refl
+  two_families None (Some s) = or_none (live_family now s)
+  two_families (Some r) None = refl
+  two_families (Some r) (Some s) = ap (option_or (live_family now r)) (or_none (live_family now s))
+
+  pub newest_live : (t : Table) (one other : Option Place) → AreNewestFirst t tuple one other
+      → option_map (λ (r : Relay). r.family) (find (is_of tuple) (filter (is_live now) (state_of t).relays))
+      ≡ option_or (option_and_then (live_family now) (in_place t one)) (option_and_then (live_family now) (in_place t other))
+  newest_live t one other newest = of_live (state_of t).relays ∙ (ap first_family newest.all ∙ two_families (in_place t one) (in_place t other))
+
+-- ---- Servers relay IPv4 and IPv6
+
+find_each : {X : Type 0} (P : X → Type 0) (test : X → Bool) (xs : List X) → AllByRecursion P xs → IfSome (find test xs) P
+find_each P test [] each = tt
+find_each P test (x ∷ xs) each = cond_both (test x) (Some x) (find test xs) (λ o. IfSome o P) (λ _. each.0) (λ _. find_each P test xs each.1)
+
+sound_left : (clock : ℕ) (keep : Relay → Bool) (rs : List Relay) → AllByRecursion (λ r. is_sound clock r ≡ true) rs → AllByRecursion (λ (r : Relay). ((r.family == 1) || (r.family == 2)) ≡ true) (filter keep rs)
+sound_left clock keep [] each = tt
+sound_left clock keep (r ∷ rs) each =
+    cond_both (keep r) (r ∷ filter keep rs) (filter keep rs) (AllByRecursion (λ (x : Relay). ((x.family == 1) || (x.family == 2)) ≡ true))
+    (λ _. ((and_parts ((r.family == 1) || (r.family == 2)) (nat_le r.until (clock + seconds lifetime_max)) each.0).0, sound_left clock keep rs each.1))
+    (λ _. sound_left clock keep rs each.1)
+
+family_of_it : (o : Option Relay) → IfSome o (λ r. ((r.family == 1) || (r.family == 2)) ≡ true) → IfSome (option_map (λ (r : Relay). r.family) o) (λ f. ((f == 1) || (f == 2)) ≡ true)
+family_of_it None is = tt
+family_of_it (Some r) is = is
+
+pub family_is : (t : Table) (keep test : Relay → Bool) → AreSound t → IfSome (option_map (λ (r : Relay). r.family) (find test (filter keep (state_of t).relays))) (λ f. ((f == 1) || (f == 2)) ≡ true)
+family_is t keep test sound =
+    family_of_it (find test (filter keep (state_of t).relays)) (find_each (λ (r : Relay). ((r.family == 1) || (r.family == 2)) ≡ true) test (filter keep (state_of t).relays) (sound_left t.clock keep (state_of t).relays sound))

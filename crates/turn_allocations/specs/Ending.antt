@@ -1,5 +1,5 @@
 -- The numbers of the sockets that a call ends.
-use Rattle.std.specs.Prelude.{◌≡◌, ℕ, ◌+◌, List}
+use Rattle.std.specs.Prelude.{◌≡◌, ℕ, List}
 use Rattle.turn_machine.specs.Lists.{times}
 
 -- a list of numbers, and for how many there is room

@@ -1,10 +1,10 @@
 -- Where data and ICMP go, in the machine's terms.
-use Rattle.std.specs.Prelude.{◌≡◌, ℕ, List, [], ◌∷◌, filter, find, Option, None, Some}
+use Rattle.std.specs.Prelude.{◌≡◌, ℕ, List, [], ◌∷◌, filter, find, Option, None, Some, if◌then◌else◌}
 use Rattle.std.specs.Option.{option_map}
 use Rattle.stun_endpoints.specs.declared.endpoints.Endpoint.{Endpoint}
 use Rattle.stun_endpoints.specs.declared.endpoints.FiveTuple.{FiveTuple}
 use Rattle.turn_machine.specs.Events.{Icmp, Output, to_peer, to_client, to_client_on, to_client_icmp, nothing}
-use Rattle.turn_machine.specs.Relays.{Relay, is_of, is_channel}
+use Rattle.turn_machine.specs.Relays.{Relay, is_of, is_live, is_channel}
 use Rattle.turn_relays.specs.Relayed.{Table, state_of, Holds}
 use Rattle.turn_allocations.specs.declared.client.Place.{Place}
 use Rattle.turn_allocations.specs.Clients.{identity_of, seen, in_place}
@@ -59,3 +59,7 @@ pub record AreNewestFirst (t : Table) (tuple : FiveTuple) (one other : Option Pl
 abbrev pub peer_by : (now channel : ℕ) → Relay → Option (ℕ × Endpoint)
 peer_by now channel r =
     option_map (λ c. (r.number, c.peer)) (find (is_channel now channel) r.channels)
+
+-- the family of a relayed address, unless it has expired
+abbrev pub live_family : (now : ℕ) → Relay → Option ℕ
+live_family now r = if is_live now r then Some r.family else None

@@ -1,5 +1,5 @@
 -- The machine's setup and rules, from limits and a policy.
-use Rattle.std.specs.Prelude.{ℕ, Bool, false, not, ◌&&◌, ◌==◌, if◌then◌else◌}
+use Rattle.std.specs.Prelude.{ℕ, Bool, ◌&&◌, ◌==◌, if◌then◌else◌}
 use Rattle.stun_endpoints.specs.declared.endpoints.Ip.{Ip}
 use Rattle.stun_endpoints.specs.declared.endpoints.Endpoint.{Endpoint}
 use Rattle.turn_machine.specs.Relays.{Setup, Rules}

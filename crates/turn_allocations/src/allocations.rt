@@ -1,8 +1,9 @@
 //! The allocations of a server.
 
-ghost use Rattle.std.specs.Prelude.{◌≡◌, ◌<◌, ◌≤◌, ◌^◌, ℕ, List, [], length, count_by, IfOk, MatchOption};
+ghost use Rattle.std.specs.Prelude.{◌≡◌, ◌<◌, ◌≤◌, ◌^◌, ℕ, List, [], length, count_by, IfOk, MatchOption, IfSome, find, true, ◌==◌, ◌||◌};
+ghost use Rattle.std.specs.Option.{option_map};
 ghost use Rattle.turn_slots.specs.Users.{user_number};
-ghost use Rattle.turn_machine.specs.Relays.{Rules, is_users};
+ghost use Rattle.turn_machine.specs.Relays.{Rules, is_of, is_users};
 ghost use Rattle.turn_machine.specs.Events.{Icmp, asks, sends, sends_on, arrives, bounces, ends, ends_user, ticks, answers, nothing};
 ghost use Rattle.turn_machine.specs.Times.{at};
 ghost use Rattle.turn_machine.specs.Runs.{initial_state};
@@ -13,9 +14,10 @@ ghost use Rattle.turn_allocations.specs.Setups.{rules_of, setup_of};
 ghost use Rattle.turn_allocations.specs.Tables.{IsStep, IsNextEnd};
 
 use crate::answer::Answer;
+use crate::client::client_of;
 use crate::ended::Ended;
 use crate::limits::Limits;
-use crate::relaying::{ToClient, ToPeer, bounce, receive, send, send_on};
+use crate::relaying::{ToClient, ToPeer, bounce, newest_family, receive, send, send_on};
 use crate::request::Request;
 use crate::serving::serve;
 use crate::sweeping::{end_number, end_users, sweep};
@@ -177,6 +179,25 @@ impl<const P: usize, const C: usize> Allocations<P, C> {
         ensures { result.now ≡ self.now.ended }
     {
         self.ended.numbers()
+    }
+
+    /// Returns the clock, in nanoseconds: the latest moment of any call.
+    pub fn clock(&self) -> u128
+        ensures clock { result ≡ self.now.state.clock }
+        ensures early { result < 2 ^ 64 }
+    {
+        self.relays.clock()
+    }
+
+    /// Returns the address family, 1 for IPv4 and 2 for IPv6, of the newest relayed address that a client has
+    /// at a moment. `None` if it has no allocation then. Ends nothing.
+    pub fn family_of(&self, now: u64, tuple: &FiveTuple) -> Option<u8>
+        ensures newest { result ≡ option_map (λ a. a.family)
+            (find (is_of tuple.now) (at now self.now.state).relays) }
+        ensures family { IfSome result (λ f. ((f == 1) || (f == 2)) ≡ true) }
+    {
+        let now = self.relays.clock().max(now as u128);
+        newest_family(&client_of(&self.relays, tuple), now)
     }
 
     /// Answers a request of an authenticated user (RFC 8656, sections 7.2, 8.2, 10.2 and 12.2).

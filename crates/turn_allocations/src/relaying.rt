@@ -1,15 +1,15 @@
 //! Where data and ICMP go (RFC 8656, sections 9, 11.2, 11.3, 11.5, 12.6 and 12.7).
 
-ghost use Rattle.std.specs.Prelude.{◌≡◌, ℕ, List, Option, false, not, ◌&&◌, ◌||◌, find, option_and_then};
-ghost use Rattle.std.specs.Option.{option_map_or};
+ghost use Rattle.std.specs.Prelude.{◌≡◌, ℕ, List, Option, false, not, ◌&&◌, ◌||◌, find, filter, option_and_then};
+ghost use Rattle.std.specs.Option.{option_map, option_map_or};
 ghost use Rattle.stun_endpoints.specs.declared.endpoints.FiveTuple.{FiveTuple};
-ghost use Rattle.turn_machine.specs.Relays.{Relay, Setup, is_at, is_permitted};
+ghost use Rattle.turn_machine.specs.Relays.{Relay, Setup, is_at, is_live, is_of, is_permitted};
 ghost use Rattle.turn_machine.specs.Events.{Icmp, sends, sends_on, arrives, bounces};
 ghost use Rattle.turn_machine.specs.Data.{allows, has_channel, is_passed, relayed};
 ghost use Rattle.turn_relays.specs.Relayed.{Table, state_of, at_slot};
 ghost use Rattle.turn_peers.specs.Policies.{is_peer};
 ghost use Rattle.turn_allocations.specs.Clients.{AreSound, Owns};
-ghost use Rattle.turn_allocations.specs.Outputs.{sending, receiving, bouncing, IsPlaced, AreNewestFirst, peer_by};
+ghost use Rattle.turn_allocations.specs.Outputs.{sending, receiving, bouncing, IsPlaced, AreNewestFirst, live_family, peer_by};
 ghost use Rattle.turn_allocations.specs.Setups.{rules_of, setup_of};
 
 use crate::client::{Client, Place, client_of};
@@ -133,6 +133,30 @@ fn peer_on<const P: usize, const C: usize>(
     match peer_in(relays, first, channel) {
         Some(found) => Some(found),
         None => peer_in(relays, second, channel),
+    }
+}
+
+/// The family of the relayed address in a place, unless it has expired.
+fn live_family(place: Option<Place>, now: u128) -> Option<u8>
+    ensures { (t : Table) (o : Option Relay) → IsPlaced t place o
+        → result ≡ option_and_then (live_family now) o }
+{
+    match place {
+        Some(place) if now < place.relayed.until => Some(place.relayed.key.family),
+        _ => None,
+    }
+}
+
+/// The family of the newest of a client's relayed addresses that have not expired.
+pub(crate) fn newest_family(client: &Client, now: u128) -> Option<u8>
+    ensures { (t : Table) (tuple : FiveTuple) → Owns t tuple client.now
+        → result ≡ option_map (λ a. a.family)
+        (find (is_of tuple) (filter (is_live now) (state_of t).relays)) }
+{
+    let (first, second) = newest_first(client);
+    match live_family(first, now) {
+        Some(family) => Some(family),
+        None => live_family(second, now),
     }
 }
 

@@ -4,6 +4,7 @@ use Rattle.std.specs.Option.{option_map_or}
 use Rattle.std.specs.Prelude.{◌==◌, ◌&&◌, max, count_by, length, nat_lt, is_some}
 use Rattle.std.proofs.lemmas.Bool.{cond_both, cond-true, cond-false, and_parts, and_from, lt-ltb}
 use Rattle.std.proofs.lemmas.List.Sums.{length-filter, count_by-le-length}
+use Rattle.stun_endpoints.specs.declared.endpoints.Endpoint.{Endpoint}
 use Rattle.stun_endpoints.specs.declared.endpoints.FiveTuple.{FiveTuple}
 use Rattle.stun_endpoints.specs.Endpoints.{is_tuple}
 use Rattle.turn_machine.specs.Relays.{seconds, Setup, Rules, State, is_of, is_owned}
@@ -17,7 +18,7 @@ use Rattle.turn_machine.specs.Examples.{outputs}
 use Rattle.turn_machine.specs.Granting.{IsFit, Has, given_of}
 use Rattle.turn_machine.specs.Refusals.{IsAgain}
 use Rattle.turn_machine.specs.Reservations.{live_at, IsBelowQuota, held_for, made_by, IsReserved}
-use Rattle.turn_machine.specs.Reserving.{Reservation, OuterState, Outer, plain, reserves, claims, is_held, held_at, is_users_held, is_token, has_place, can_reserve, pair_want, reserved_want, no_want, inner, is_success, is_opening, reservation, held_after, is_reserved_by, token_for, outer_step, OuterTimed, outer_run, inner_run, outer_outputs}
+use Rattle.turn_machine.specs.Reserving.{Reservation, OuterState, Outer, plain, reserves, claims, is_held, held_at, is_users_held, is_token, has_place, can_reserve, pair_want, reserved_offer, reserved_want, no_want, inner, is_success, is_opening, reservation, held_after, is_reserved_by, token_for, outer_step, OuterTimed, outer_run, inner_run, outer_outputs}
 use Rattle.turn_machine.proofs.AddressesLemmas.{tuple_is_itself}
 use Rattle.turn_machine.proofs.ListsLemmas.{none_any, some_any, some_map, left_false, right_false, count_cons, count_filter}
 use Rattle.turn_machine.proofs.AgainLemmas.{is_again_of}
@@ -47,11 +48,11 @@ one_more true n most less le = let l = less refl in omega (arith, l)
 one_more false n most less le = omega (arith, le)
 
 -- what is opened had its pair
-reserved_few : (setup : Setup) (now : ℕ) (tuple : FiveTuple) (user id : ℕ) (lifetime : Option ℕ) (want : Want) (next : Option Offer) (token : ℕ) (held : List Reservation) → nat_lt (count_by (is_users_held user) held) setup.most_of_user ≡ true → IsFew setup held
+reserved_few : (setup : Setup) (now : ℕ) (tuple : FiveTuple) (user id : ℕ) (lifetime : Option ℕ) (want : Want) (next : Option Endpoint) (token : ℕ) (held : List Reservation) → nat_lt (count_by (is_users_held user) held) setup.most_of_user ≡ true → IsFew setup held
     → IsFew setup (reservation now (reserves tuple user id lifetime want next token) next held)
 reserved_few setup now tuple user id lifetime want None token held room few other = few other
-reserved_few setup now tuple user id lifetime want (Some offer) token held room few other =
-    let r : Reservation = record { token = token; user = user; tuple = tuple; id = id; family = want.family; offer = offer; until = now + seconds 30 } in
+reserved_few setup now tuple user id lifetime want (Some address) token held room few other =
+    let r : Reservation = record { token = token; user = user; tuple = tuple; id = id; family = want.family; address = address; until = now + seconds 30 } in
     subst (λ (n : ℕ). n ≤ setup.most_of_user) (sym (count_cons (is_users_held other) r held))
     (one_more (user == other) (count_by (is_users_held other) held) setup.most_of_user
     (λ same. subst (λ (u : ℕ). count_by (is_users_held u) held < setup.most_of_user) (eqb-true user other same) (ltb-true (count_by (is_users_held user) held) setup.most_of_user room)) (few other))
@@ -67,7 +68,7 @@ after_few setup state (reserves tuple user id lifetime want next token) output h
     let can = (and_parts (is_opening tuple state output) (can_reserve setup user next held) both).1 in
     let place = (and_parts (is_some next) (has_place setup user held) can).1 in
     reserved_few setup state.clock tuple user id lifetime want next token held (and_parts (nat_lt (count_by (is_users_held user) held) setup.most_of_user) (nat_lt (length held) setup.most_reservations) place).0 few) (λ _. few)
-after_few setup state (claims tuple user id lifetime token) output held few =
+after_few setup state (claims tuple user id lifetime token number) output held few =
     cond_both (is_opening tuple state output) (filter (λ r. not (is_token token r)) held) held (IsFew setup) (λ _. filtered_few setup (λ r. not (is_token token r)) held few) (λ _. few)
 
 pub held_few : (setup : Setup) (events : List OuterTimed) (user : ℕ) → count_by (is_users_held user) (outer_run setup events).held ≤ setup.most_of_user
@@ -79,10 +80,10 @@ held_few setup (t ∷ events) user =
 filtered_shorter : (keep : Reservation → Bool) (held : List Reservation) → length (filter keep held) ≤ length held
 filtered_shorter keep held = let is = length-filter keep held in let less = count_by-le-length keep held in omega (arith, is, less)
 
-reserved_bounded : (most now : ℕ) (tuple : FiveTuple) (user id : ℕ) (lifetime : Option ℕ) (want : Want) (next : Option Offer) (token : ℕ) (held : List Reservation) → length held < most → length held ≤ most
+reserved_bounded : (most now : ℕ) (tuple : FiveTuple) (user id : ℕ) (lifetime : Option ℕ) (want : Want) (next : Option Endpoint) (token : ℕ) (held : List Reservation) → length held < most → length held ≤ most
     → length (reservation now (reserves tuple user id lifetime want next token) next held) ≤ most
 reserved_bounded most now tuple user id lifetime want None token held room short = short
-reserved_bounded most now tuple user id lifetime want (Some offer) token held room short = room
+reserved_bounded most now tuple user id lifetime want (Some address) token held room short = room
 
 -- the places are enough
 pub after_bounded : (setup : Setup) (state : State) (outer : Outer) (output : Output) (held : List Reservation) → length held ≤ setup.most_reservations → length (held_after setup state outer output held) ≤ setup.most_reservations
@@ -94,7 +95,7 @@ after_bounded setup state (reserves tuple user id lifetime want next token) outp
     let place = (and_parts (is_some next) (has_place setup user held) can).1 in
     let room = (and_parts (nat_lt (count_by (is_users_held user) held) setup.most_of_user) (nat_lt (length held) setup.most_reservations) place).1 in
     reserved_bounded setup.most_reservations state.clock tuple user id lifetime want next token held (ltb-true (length held) setup.most_reservations room) short) (λ _. short)
-after_bounded setup state (claims tuple user id lifetime token) output held short =
+after_bounded setup state (claims tuple user id lifetime token number) output held short =
     cond_both (is_opening tuple state output) (filter (λ r. not (is_token token r)) held) held (λ (l : List Reservation). length l ≤ setup.most_reservations)
     (λ _. let fewer = filtered_shorter (λ r. not (is_token token r)) held in omega (arith, fewer, short)) (λ _. short)
 
@@ -113,7 +114,7 @@ OneAnswer setup tuple user id lifetime want offer s =
     let granted = granted_for lifetime setup.greatest_lifetime in
     answers tuple (allocated (given_of (opened tuple user id (s.clock + seconds granted) want.family s offer) ∷ []) granted [])
 
-pub reserved : (setup : Setup) (rules : Rules) (h : OuterState) (now : ℕ) (tuple : FiveTuple) (user id : ℕ) (lifetime : Option ℕ) (want : Want) (offer next : Offer) (token : ℕ)
+pub reserved : (setup : Setup) (rules : Rules) (h : OuterState) (now : ℕ) (tuple : FiveTuple) (user id : ℕ) (lifetime : Option ℕ) (want : Want) (offer : Offer) (next : Endpoint) (token : ℕ)
     → let s = at now h.state in let held = live_at s.clock h.held in
     let done = outer_step setup rules h now (reserves tuple user id lifetime want (Some next) token) in
     IsFit setup tuple user want offer s → IsBelowQuota setup user held → length held < setup.most_reservations
@@ -130,7 +131,7 @@ reserved setup rules h now tuple user id lifetime want offer next token fit room
     ap (λ (x : Step). x.output) same
     ∙ ap (λ (x : Step). x.output) (one_granted setup rules s tuple user id lifetime want offer fit) in
     let outer = reserves tuple user id lifetime want (Some next) token in
-    let r : Reservation = record { token = token; user = user; tuple = tuple; id = id; family = want.family; offer = next; until = s.clock + seconds 30 } in
+    let r : Reservation = record { token = token; user = user; tuple = tuple; id = id; family = want.family; address = next; until = s.clock + seconds 30 } in
     let opening : is_opening tuple s (step setup rules h.state now event).output ≡ true =
     and_from (not (has_any tuple s)) (is_success (step setup rules h.state now event).output) (ap not (none_any (is_of tuple) s.relays fit.free)) (ap is_success reply) in
     let kept : held_after setup s outer (step setup rules h.state now event).output held ≡ r ∷ held =
@@ -147,32 +148,32 @@ reserved setup rules h now tuple user id lifetime want offer next token fit room
 
 -- ---- A token serves its user, once
 
-pub claimed : (setup : Setup) (rules : Rules) (h : OuterState) (now : ℕ) (tuple : FiveTuple) (user id : ℕ) (lifetime : Option ℕ) (token : ℕ) (r : Reservation)
+pub claimed : (setup : Setup) (rules : Rules) (h : OuterState) (now : ℕ) (tuple : FiveTuple) (user id : ℕ) (lifetime : Option ℕ) (token number : ℕ) (r : Reservation)
     → let s = at now h.state in let held = live_at s.clock h.held in
-    let done = outer_step setup rules h now (claims tuple user id lifetime token) in
-    held_for user token held ≡ Some r → IsFit setup tuple user (reserved_want r) r.offer s
-    → (done.step ≡ step setup rules h.state now (asks tuple user (allocate id lifetime (reserved_want r ∷ [])))) × (done.holding.held ≡ filter (λ x. not (x.token == token)) held)
-claimed setup rules h now tuple user id lifetime token r found fit =
+    let done = outer_step setup rules h now (claims tuple user id lifetime token (Some number)) in
+    held_for user token held ≡ Some r → IsFit setup tuple user (reserved_want (Some number) r) (reserved_offer r number) s
+    → (done.step ≡ step setup rules h.state now (asks tuple user (allocate id lifetime (reserved_want (Some number) r ∷ [])))) × (done.holding.held ≡ filter (λ x. not (x.token == token)) held)
+claimed setup rules h now tuple user id lifetime token number r found fit =
     let s = at now h.state in
     let held = held_at now h in
-    let event = inner setup s held (claims tuple user id lifetime token) in
-    let same : step setup rules h.state now event ≡ step setup rules h.state now (asks tuple user (allocate id lifetime (reserved_want r ∷ []))) =
-    ap (λ (o : Option Reservation). step setup rules h.state now (asks tuple user (allocate id lifetime (option_map_or reserved_want o (no_want setup tuple s) ∷ [])))) found in
-    let reply : (step setup rules h.state now event).output ≡ OneAnswer setup tuple user id lifetime (reserved_want r) r.offer s =
+    let event = inner setup s held (claims tuple user id lifetime token (Some number)) in
+    let same : step setup rules h.state now event ≡ step setup rules h.state now (asks tuple user (allocate id lifetime (reserved_want (Some number) r ∷ []))) =
+    ap (λ (o : Option Reservation). step setup rules h.state now (asks tuple user (allocate id lifetime (option_map_or (reserved_want (Some number)) o (no_want setup tuple s) ∷ [])))) found in
+    let reply : (step setup rules h.state now event).output ≡ OneAnswer setup tuple user id lifetime (reserved_want (Some number) r) (reserved_offer r number) s =
     ap (λ (x : Step). x.output) same
-    ∙ ap (λ (x : Step). x.output) (one_granted setup rules s tuple user id lifetime (reserved_want r) r.offer fit) in
+    ∙ ap (λ (x : Step). x.output) (one_granted setup rules s tuple user id lifetime (reserved_want (Some number) r) (reserved_offer r number) fit) in
     let opening : is_opening tuple s (step setup rules h.state now event).output ≡ true =
     and_from (not (has_any tuple s)) (is_success (step setup rules h.state now event).output) (ap not (none_any (is_of tuple) s.relays fit.free)) (ap is_success reply) in (
       same,
       cond-true (is_opening tuple s (step setup rules h.state now event).output) (filter (λ x. not (is_token token x)) held) held opening,
     )
 
-pub not_claimed : (setup : Setup) (rules : Rules) (h : OuterState) (now : ℕ) (tuple : FiveTuple) (user id : ℕ) (lifetime : Option ℕ) (token : ℕ) → let s = at now h.state in held_for user token (live_at s.clock h.held) ≡ None
-    → (outer_step setup rules h now (claims tuple user id lifetime token)).holding.state.relays ≡ s.relays
-not_claimed setup rules h now tuple user id lifetime token none =
+pub not_claimed : (setup : Setup) (rules : Rules) (h : OuterState) (now : ℕ) (tuple : FiveTuple) (user id : ℕ) (lifetime : Option ℕ) (token : ℕ) (number : Option ℕ) → let s = at now h.state in held_for user token (live_at s.clock h.held) ≡ None
+    → (outer_step setup rules h now (claims tuple user id lifetime token number)).holding.state.relays ≡ s.relays
+not_claimed setup rules h now tuple user id lifetime token number none =
     let s = at now h.state in
     let w = no_want setup tuple s in
-    ap (λ (o : Option Reservation). (step setup rules h.state now (asks tuple user (allocate id lifetime (option_map_or reserved_want o w ∷ [])))).state.relays) none
+    ap (λ (o : Option Reservation). (step setup rules h.state now (asks tuple user (allocate id lifetime (option_map_or (reserved_want number) o w ∷ [])))).state.relays) none
     ∙ serve_cases setup rules tuple user (allocate id lifetime (w ∷ [])) s (λ x. x.state.relays ≡ s.relays) (λ _ _ _. refl) (λ _. refl)
     (λ _ _. ap (λ (x : State). x.relays) (unmet setup tuple user id (s.clock + seconds (granted_for lifetime setup.greatest_lifetime)) w s (inr refl)))
 
@@ -186,12 +187,12 @@ none_held setup s (plain event) output held isnt = refl
 none_held setup s (reserves tuple user id lifetime want next token) output held isnt =
     cond-false (is_opening tuple s output && can_reserve setup user next held) (reservation s.clock (reserves tuple user id lifetime want next token) next held) held
     (left_false (is_opening tuple s output) (can_reserve setup user next held) (no_opening tuple s output isnt))
-none_held setup s (claims tuple user id lifetime token) output held isnt = cond-false (is_opening tuple s output) (filter (λ r. not (is_token token r)) held) held (no_opening tuple s output isnt)
+none_held setup s (claims tuple user id lifetime token number) output held isnt = cond-false (is_opening tuple s output) (filter (λ r. not (is_token token r)) held) held (no_opening tuple s output isnt)
 
 no_token : (outer : Outer) (output : Output) (held : List Reservation) → is_success output ≡ false → token_for outer output held ≡ None
 no_token (plain event) output held isnt = refl
 no_token (reserves tuple user id lifetime want next token) output held isnt = cond-false (is_success output) (option_map_or (λ r. Some r.token) (find (is_reserved_by tuple id) held) None) None isnt
-no_token (claims tuple user id lifetime token) output held isnt = refl
+no_token (claims tuple user id lifetime token number) output held isnt = refl
 
 pub refused_reserve_nothing : (setup : Setup) (rules : Rules) (h : OuterState) (now : ℕ) (outer : Outer) (tuple : FiveTuple) (code : ℕ) → let done = outer_step setup rules h now outer in
     done.step.output ≡ answers tuple (refused code) → (done.holding.held ≡ live_at (at now h.state).clock h.held) × (done.token ≡ None)
@@ -203,11 +204,11 @@ refused_reserve_nothing setup rules h now outer tuple code is =
 open_already : (tuple : FiveTuple) (s : State) (output : Output) → Has tuple s → is_opening tuple s output ≡ false
 open_already tuple s output has = left_false (not (has_any tuple s)) (is_success output) (ap not (some_any (is_of tuple) s.relays has))
 
-pub claimed_again : (setup : Setup) (rules : Rules) (h : OuterState) (now : ℕ) (tuple : FiveTuple) (user id : ℕ) (lifetime : Option ℕ) (token : ℕ) → let s = at now h.state in Has tuple s
-    → (outer_step setup rules h now (claims tuple user id lifetime token)).holding.held ≡ live_at s.clock h.held
-claimed_again setup rules h now tuple user id lifetime token has =
+pub claimed_again : (setup : Setup) (rules : Rules) (h : OuterState) (now : ℕ) (tuple : FiveTuple) (user id : ℕ) (lifetime : Option ℕ) (token : ℕ) (number : Option ℕ) → let s = at now h.state in Has tuple s
+    → (outer_step setup rules h now (claims tuple user id lifetime token number)).holding.held ≡ live_at s.clock h.held
+claimed_again setup rules h now tuple user id lifetime token number has =
     let s = at now h.state in
-    let output = (outer_step setup rules h now (claims tuple user id lifetime token)).step.output in
+    let output = (outer_step setup rules h now (claims tuple user id lifetime token number)).step.output in
     cond-false (is_opening tuple s output) (filter (λ r. not (is_token token r)) (held_at now h)) (held_at now h) (open_already tuple s output has)
 
 again_success : (setup : Setup) (rules : Rules) (tuple : FiveTuple) (user id : ℕ) (lifetime : Option ℕ) (wants : List Want) (s : State) → IsAgain tuple user id s → is_success (serves setup rules tuple user (allocate id lifetime wants) s).output ≡ true
@@ -215,7 +216,7 @@ again_success setup rules tuple user id lifetime wants s again =
     let r = allocate id lifetime wants in
     ap (λ (x : Step). is_success x.output) (cond-true (is_again tuple user r s) (keeping s (answers_again setup tuple r s)) (serves_new setup rules tuple user r s) (is_again_of tuple user id s again))
 
-pub repeated : (setup : Setup) (rules : Rules) (h : OuterState) (now : ℕ) (tuple : FiveTuple) (user id : ℕ) (lifetime : Option ℕ) (want : Want) (next : Option Offer) (token : ℕ)
+pub repeated : (setup : Setup) (rules : Rules) (h : OuterState) (now : ℕ) (tuple : FiveTuple) (user id : ℕ) (lifetime : Option ℕ) (want : Want) (next : Option Endpoint) (token : ℕ)
     → let s = at now h.state in let held = live_at s.clock h.held in
     let done = outer_step setup rules h now (reserves tuple user id lifetime want next token) in
     IsAgain tuple user id s → (done.holding.held ≡ held) × ((r : Reservation) → made_by tuple id held ≡ Some r → done.token ≡ Some r.token)

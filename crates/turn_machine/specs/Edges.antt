@@ -5,7 +5,7 @@ use Rattle.std.specs.Prelude.{ℕ, zero, suc, ◌-◌, ◌==◌, ◌||◌, not, 
 use Rattle.stun_endpoints.specs.declared.endpoints.Endpoint.{Endpoint}
 use Rattle.stun_endpoints.specs.declared.endpoints.FiveTuple.{FiveTuple}
 use Rattle.turn_machine.specs.Relays.{seconds, Setup, Rules}
-use Rattle.turn_machine.specs.Events.{Want, Request, allocate, unfit_allocate, refresh, permit, bind, unfit, permit_request, Event, asks, sends, sends_on, arrives, bounces, ends, ends_user, Icmp, Given, allocated, refreshed, done, refused, Output, answers, to_peer, to_client, to_client_on, to_client_icmp, nothing, Offer}
+use Rattle.turn_machine.specs.Events.{Want, Request, allocate, unfit_allocate, refresh, permit, bind, unfit, permit_request, Event, asks, sends, sends_on, arrives, bounces, ends, ends_user, Icmp, Given, allocated, refreshed, done, refused, Output, answers, to_peer, to_client, to_client_on, to_client_icmp, nothing}
 use Rattle.turn_machine.specs.Runs.{Timed, history}
 use Rattle.turn_machine.specs.Examples.{address, ipv6_address, client, ipv4_want, ipv6_want, ipv4_given, ipv6_given, alice, bob, outputs}
 
@@ -339,8 +339,8 @@ held_before n outer reply = record {
   token = None;
 }
 
-abbrev pub pair_with : ℕ → Option Offer
-pair_with n = Some (record { number = 0; address = address n })
+abbrev pub pair_with : ℕ → Option Endpoint
+pair_with n = Some (address n)
 
 abbrev pub unsupported_want : Want
 unsupported_want = record {
@@ -356,17 +356,17 @@ held_cases =
     held_on 1 (reserves (client 11) alice 1 None (ipv4_want 30) None 77) (no 11 508) None
     ∷ held_on 1 (reserves (client 11) alice 1 None unsupported_want (pair_with 31) 76) (no 11 440)
     None
-    ∷ held_on 1 (claims (client 12) alice 2 None 76) (no 12 508) None
+    ∷ held_on 1 (claims (client 12) alice 2 None 76 (Some 0)) (no 12 508) None
     ∷ held_on 1 (reserves (client 11) alice 1 None (ipv4_want 30) (pair_with 31) 77)
     (gets 11 (ipv4_given 0 30 ∷ []) 600) (Some 77)
     ∷ held_on 1 (reserves (client 11) alice 1 None (ipv4_want 30) (pair_with 31) 99)
     (gets 11 (ipv4_given 0 30 ∷ []) 600) (Some 77)
-    ∷ held_on 2 (claims (client 13) bob 1 None 77) (no 13 508) None
-    ∷ held_on 2 (claims (client 12) alice 2 None 78) (no 12 508) None
-    ∷ held_on 3 (claims (client 12) alice 2 None 77) (gets 12 (ipv4_given 1 31 ∷ []) 600) None
-    ∷ held_on 3 (claims (client 12) alice 2 None 77) (gets 12 (ipv4_given 1 31 ∷ []) 600) None
+    ∷ held_on 2 (claims (client 13) bob 1 None 77 (Some 0)) (no 13 508) None
+    ∷ held_on 2 (claims (client 12) alice 2 None 78 (Some 0)) (no 12 508) None
+    ∷ held_on 3 (claims (client 12) alice 2 None 77 (Some 0)) (gets 12 (ipv4_given 1 31 ∷ []) 600) None
+    ∷ held_on 3 (claims (client 12) alice 2 None 77 (Some 0)) (gets 12 (ipv4_given 1 31 ∷ []) 600) None
     ∷ held_on 4 (ends_all 12) (answers (client 12) (refreshed 0)) None
-    ∷ held_on 5 (claims (client 12) alice 3 None 77) (no 12 508) None
+    ∷ held_on 5 (claims (client 12) alice 3 None 77 (Some 0)) (no 12 508) None
     ∷ held_on 6 (reserves (client 12) alice 4 None (ipv4_want 40) (pair_with 41) 79)
     (gets 12 (ipv4_given 2 40 ∷ []) 600) (Some 79)
     ∷ held_on 7 (ends_all 12) (answers (client 12) (refreshed 0)) None
@@ -381,7 +381,7 @@ held_cases =
     (answers (client 13) (refreshed 0)) None
     ∷ held_on 10 (reserves (client 13) bob 3 None (ipv4_want 72) (pair_with 73) 83)
     (no 13 508) None
-    ∷ held_before 36 (claims (client 12) alice 7 None 79) (gets 12 (ipv4_given 5 41 ∷ []) 600)
+    ∷ held_before 36 (claims (client 12) alice 7 None 79 (Some 0)) (gets 12 (ipv4_given 5 41 ∷ []) 600)
     ∷ held_on 37 (ends_all 12) (answers (client 12) (refreshed 0)) None
-    ∷ held_on 38 (claims (client 12) alice 8 None 80) (no 12 508) None
+    ∷ held_on 38 (claims (client 12) alice 8 None 80 (Some 0)) (no 12 508) None
     ∷ []

@@ -1,9 +1,10 @@
 -- What a reservation is (RFC 8656, sections 7.2 and 18.10), in the laws' own words.
 use Rattle.std.specs.Prelude.{◌≡◌, ℕ, ◌+◌, ◌<◌, ◌==◌, ◌&&◌, List, filter, find, count_by, nat_lt, Option}
+use Rattle.stun_endpoints.specs.declared.endpoints.Endpoint.{Endpoint}
 use Rattle.stun_endpoints.specs.declared.endpoints.FiveTuple.{FiveTuple}
 use Rattle.stun_endpoints.specs.Endpoints.{is_tuple}
 use Rattle.turn_machine.specs.Relays.{seconds, Setup}
-use Rattle.turn_machine.specs.Events.{Offer, Want}
+use Rattle.turn_machine.specs.Events.{Want}
 use Rattle.turn_machine.specs.Reserving.{Reservation}
 
 -- those that haven't expired at a moment
@@ -26,9 +27,9 @@ abbrev pub made_by : FiveTuple → (id : ℕ) → List Reservation → Option Re
 made_by tuple id held = find (λ r. is_tuple tuple r.tuple && (r.id == id)) held
 
 -- this user's request reserved this socket for 30 seconds, with this token
-pub record IsReserved (now : ℕ) (tuple : FiveTuple) (user id : ℕ) (want : Want) (offer : Offer)
-    (token : ℕ) (r : Reservation) : Type 0 where
+pub record IsReserved (now : ℕ) (tuple : FiveTuple) (user id : ℕ) (want : Want)
+    (address : Endpoint) (token : ℕ) (r : Reservation) : Type 0 where
   pub token_is : r.token ≡ token
   pub whose : (r.tuple ≡ tuple) × (r.user ≡ user) × (r.id ≡ id)
-  pub socket : (r.family ≡ want.family) × (r.offer ≡ offer)
+  pub socket : (r.family ≡ want.family) × (r.address ≡ address)
   pub until_is : r.until ≡ now + seconds 30

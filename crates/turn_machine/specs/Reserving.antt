@@ -4,7 +4,8 @@
 -- (EVEN-PORT without the bit only limits which socket the caller offers.) A server without this
 -- layer treats both attributes as unknown.
 use Rattle.std.specs.Prelude.{ℕ, ◌+◌, Bool, true, false, not, ◌&&◌, ◌==◌, if◌then◌else◌, List, [], ◌∷◌, map, filter, find, count_by, length, max, nat_lt, Option, None, Some, is_some}
-use Rattle.std.specs.Option.{option_map_or}
+use Rattle.std.specs.Option.{option_map, option_map_or}
+use Rattle.stun_endpoints.specs.declared.endpoints.Endpoint.{Endpoint}
 use Rattle.stun_endpoints.specs.declared.endpoints.FiveTuple.{FiveTuple}
 use Rattle.stun_endpoints.specs.Endpoints.{is_tuple}
 use Rattle.turn_machine.specs.Relays.{seconds, Setup, Rules, State, is_of}
@@ -14,27 +15,30 @@ use Rattle.turn_machine.specs.Rows.{has_any}
 use Rattle.turn_machine.specs.Steps.{Step, step}
 use Rattle.turn_machine.specs.Runs.{Timed, initial_state}
 
--- A reserved socket: its token, the user and the request that reserved it, and until when
+-- A reserved socket: its token, the user and the request that reserved it, its family and address, and
+-- until when
 pub record Reservation : Type 0 where
   pub token : ℕ
   pub user : ℕ
   pub tuple : FiveTuple
   pub id : ℕ
   pub family : ℕ
-  pub offer : Offer
+  pub address : Endpoint
   pub until : ℕ
 
 pub record OuterState : Type 0 where
   pub state : State
   pub held : List Reservation
 
--- An event of the machine; an Allocate request that reserves the next higher port, with the
--- caller's socket for that port and the random token for it; or an Allocate request with a token
+-- An event of the machine; an Allocate request that reserves the next higher port, with the address
+-- of the caller's socket for that port and the random token for it; or an Allocate request with a
+-- token, with a lower bound of the number that the reserved socket gets, or None if there is no number
 pub data Outer : Type 0 where
   plain : Event → Outer
-  reserves : FiveTuple → (user id : ℕ) → (lifetime : Option ℕ) → Want → (next : Option Offer)
-      → (token : ℕ) → Outer
-  claims : FiveTuple → (user id : ℕ) → (lifetime : Option ℕ) → (token : ℕ) → Outer
+  reserves : FiveTuple → (user id : ℕ) → (lifetime : Option ℕ) → Want
+      → (next : Option Endpoint) → (token : ℕ) → Outer
+  claims : FiveTuple → (user id : ℕ) → (lifetime : Option ℕ) → (token : ℕ)
+      → (number : Option ℕ) → Outer
 
 abbrev pub is_held : ℕ → Reservation → Bool
 is_held now r = nat_lt now r.until
@@ -61,17 +65,23 @@ has_place setup user held =
     && nat_lt (length held) setup.most_reservations
 
 -- The pair of ports is there, and a place for the reservation
-abbrev pub can_reserve : Setup → (user : ℕ) → (next : Option Offer) → List Reservation → Bool
+abbrev pub can_reserve : Setup → (user : ℕ) → (next : Option Endpoint) → List Reservation → Bool
 can_reserve setup user next held = is_some next && has_place setup user held
 
-abbrev pub pair_want : Setup → (user : ℕ) → Want → (next : Option Offer) → List Reservation → Want
+abbrev pub pair_want : Setup → (user : ℕ) → Want → (next : Option Endpoint) → List Reservation → Want
 pair_want setup user want next held = record {
   family = want.family;
   ready = if can_reserve setup user next held then want.ready else None;
 }
 
-abbrev pub reserved_want : Reservation → Want
-reserved_want r = record { family = r.family; ready = Some r.offer }
+abbrev pub reserved_offer : Reservation → (number : ℕ) → Offer
+reserved_offer r number = record { number = number; address = r.address }
+
+abbrev pub reserved_want : (number : Option ℕ) → Reservation → Want
+reserved_want number r = record {
+  family = r.family;
+  ready = option_map (reserved_offer r) number;
+}
 
 -- A token that isn't valid is a request with no socket: 508 (7.2)
 abbrev pub no_want : Setup → FiveTuple → State → Want
@@ -81,17 +91,20 @@ no_want setup tuple state = record {
   ready = None;
 }
 
-abbrev pub claimed_want : Setup → FiveTuple → (user token : ℕ) → State → List Reservation → Want
-claimed_want setup tuple user token state held =
-    option_map_or reserved_want (find (is_claim user token) held) (no_want setup tuple state)
+abbrev pub claimed_want : Setup → FiveTuple → (user token : ℕ) → (number : Option ℕ) → State
+    → List Reservation → Want
+claimed_want setup tuple user token number state held =
+    option_map_or (reserved_want number) (find (is_claim user token) held)
+    (no_want setup tuple state)
 
 -- the machine's event
 abbrev pub inner : Setup → State → List Reservation → Outer → Event
 inner setup state held (plain event) = event
 inner setup state held (reserves tuple user id lifetime want next token) =
     asks tuple user (allocate id lifetime (pair_want setup user want next held ∷ []))
-inner setup state held (claims tuple user id lifetime token) =
-    asks tuple user (allocate id lifetime (claimed_want setup tuple user token state held ∷ []))
+inner setup state held (claims tuple user id lifetime token number) =
+    asks tuple user
+    (allocate id lifetime (claimed_want setup tuple user token number state held ∷ []))
 
 -- whether the request opens an allocation: there was none, and it succeeds. Only then is a socket
 -- reserved, or a reservation used up: a refused Allocate request reserves nothing
@@ -103,21 +116,21 @@ abbrev pub is_opening : FiveTuple → State → Output → Bool
 is_opening tuple state output = not (has_any tuple state) && is_success output
 
 -- for 30 seconds (7.2)
-abbrev pub reserved_by : (now : ℕ) → FiveTuple → (user id : ℕ) → Want → Offer → (token : ℕ)
-    → Reservation
-reserved_by now tuple user id want offer token = record {
+abbrev pub reserved_by : (now : ℕ) → FiveTuple → (user id : ℕ) → Want → Endpoint
+    → (token : ℕ) → Reservation
+reserved_by now tuple user id want address token = record {
   token = token;
   user = user;
   tuple = tuple;
   id = id;
   family = want.family;
-  offer = offer;
+  address = address;
   until = now + seconds 30;
 }
 
-abbrev pub reservation : ℕ → Outer → Option Offer → List Reservation → List Reservation
-reservation now (reserves tuple user id lifetime want next token) (Some offer) held =
-    reserved_by now tuple user id want offer token ∷ held
+abbrev pub reservation : ℕ → Outer → Option Endpoint → List Reservation → List Reservation
+reservation now (reserves tuple user id lifetime want next token) (Some address) held =
+    reserved_by now tuple user id want address token ∷ held
 reservation now _ _ held = held
 
 abbrev pub held_after : Setup → State → Outer → Output → List Reservation → List Reservation
@@ -126,7 +139,7 @@ held_after setup state (reserves tuple user id lifetime want next token) output 
     if is_opening tuple state output && can_reserve setup user next held
     then reservation state.clock (reserves tuple user id lifetime want next token) next held
     else held
-held_after setup state (claims tuple user id lifetime token) output held =
+held_after setup state (claims tuple user id lifetime token number) output held =
     if is_opening tuple state output then filter (λ r. not (is_token token r)) held else held
 
 -- The token in a success response is that of the reservation which this very request made, also if
@@ -139,7 +152,7 @@ token_for (plain event) output held = None
 token_for (reserves tuple user id lifetime want next token) output held =
     if is_success output
     then option_map_or (λ r. Some r.token) (find (is_reserved_by tuple id) held) None else None
-token_for (claims tuple user id lifetime token) output held = None
+token_for (claims tuple user id lifetime token number) output held = None
 
 -- A step: that of the machine; the reservations after it; the token in the response; and the tokens
 -- that have expired, whose sockets the caller closes

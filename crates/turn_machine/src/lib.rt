@@ -476,8 +476,8 @@ pub fn reservations_are_kept()
     ensures bounded { (setup : Setup) (events : List OuterTimed)
         → length (outer_run setup events).held ≤ setup.most_reservations }
     ensures reserved { (setup : Setup) (rules : Rules) (h : OuterState) (now : ℕ)
-        (tuple : FiveTuple) (user id : ℕ) (lifetime : Option ℕ) (want : Want) (offer next : Offer)
-        (token : ℕ) → let s = at now h.state in let held = live_at s.clock h.held in
+        (tuple : FiveTuple) (user id : ℕ) (lifetime : Option ℕ) (want : Want) (offer : Offer)
+        (next : Endpoint) (token : ℕ) → let s = at now h.state in let held = live_at s.clock h.held in
         let done = outer_step setup rules h now
         (reserves tuple user id lifetime want (Some next) token) in
         IsFit setup tuple user want offer s → IsBelowQuota setup user held
@@ -487,33 +487,36 @@ pub fn reservations_are_kept()
         × (done.step
         ≡ step setup rules h.state now (asks tuple user (allocate id lifetime (want ∷ [])))) }
     ensures claimed { (setup : Setup) (rules : Rules) (h : OuterState) (now : ℕ)
-        (tuple : FiveTuple) (user id : ℕ) (lifetime : Option ℕ) (token : ℕ) (r : Reservation)
+        (tuple : FiveTuple) (user id : ℕ) (lifetime : Option ℕ) (token number : ℕ) (r : Reservation)
         → let s = at now h.state in let held = live_at s.clock h.held in
-        let want : Want = record { family = r.family; ready = Some r.offer } in
-        let done = outer_step setup rules h now (claims tuple user id lifetime token) in
-        held_for user token held ≡ Some r → IsFit setup tuple user want r.offer s
+        let offer : Offer = record { number = number; address = r.address } in
+        let want : Want = record { family = r.family; ready = Some offer } in
+        let done = outer_step setup rules h now (claims tuple user id lifetime token (Some number)) in
+        held_for user token held ≡ Some r → IsFit setup tuple user want offer s
         → (done.step
         ≡ step setup rules h.state now (asks tuple user (allocate id lifetime (want ∷ []))))
         × (done.holding.held ≡ filter (λ x. not (x.token == token)) held) }
     ensures not_claimed { (setup : Setup) (rules : Rules) (h : OuterState) (now : ℕ)
         (tuple : FiveTuple) (user id : ℕ) (lifetime : Option ℕ) (token : ℕ)
+        (number : Option ℕ)
         → let s = at now h.state in held_for user token (live_at s.clock h.held) ≡ None
-        → (outer_step setup rules h now (claims tuple user id lifetime token)).holding.state.relays
+        → (outer_step setup rules h now (claims tuple user id lifetime token number)).holding.state.relays
         ≡ s.relays }
     ensures refused { (setup : Setup) (rules : Rules) (h : OuterState) (now : ℕ) (outer : Outer)
         (tuple : FiveTuple) (code : ℕ) → let done = outer_step setup rules h now outer in
         done.step.output ≡ answers tuple (refused code)
         → (done.holding.held ≡ live_at (at now h.state).clock h.held) × (done.token ≡ None) }
     ensures again { (setup : Setup) (rules : Rules) (h : OuterState) (now : ℕ) (tuple : FiveTuple)
-        (user id : ℕ) (lifetime : Option ℕ) (want : Want) (next : Option Offer) (token : ℕ)
+        (user id : ℕ) (lifetime : Option ℕ) (want : Want) (next : Option Endpoint) (token : ℕ)
         → let s = at now h.state in let held = live_at s.clock h.held in
         let done = outer_step setup rules h now (reserves tuple user id lifetime want next token) in
         IsAgain tuple user id s → (done.holding.held ≡ held)
         × ((r : Reservation) → made_by tuple id held ≡ Some r → done.token ≡ Some r.token) }
     ensures claimed_again { (setup : Setup) (rules : Rules) (h : OuterState) (now : ℕ)
         (tuple : FiveTuple) (user id : ℕ) (lifetime : Option ℕ) (token : ℕ)
+        (number : Option ℕ)
         → let s = at now h.state in Has tuple s
-        → (outer_step setup rules h now (claims tuple user id lifetime token)).holding.held
+        → (outer_step setup rules h now (claims tuple user id lifetime token number)).holding.held
         ≡ live_at s.clock h.held }
     ensures others { (setup : Setup) (rules : Rules) (h : OuterState) (now : ℕ) (event : Event)
         → let done = outer_step setup rules h now (plain event) in

@@ -1,0 +1,59 @@
+-- What is asked of reserved sockets is asked of the machine's reservations.
+use Rattle.std.proofs.Common.{◌≡◌, ℕ, ◌+◌, Bool, true, false, cond, List, [], ◌∷◌, map, filter, find, Some, refl, ap, ◌∙◌, append-nil}
+use Rattle.std.specs.Option.{option_map}
+use Rattle.std.specs.Prelude.{◌<◌, ◌++◌, not, nat_lt, length, take, get_or}
+use Rattle.std.proofs.lemmas.List.{map-append}
+use Rattle.std.proofs.lemmas.List.Elements.{filter_more}
+use Rattle.turn_machine.specs.Reserving.{Reservation, is_held}
+use Rattle.turn_reservations.specs.declared.held.Reserved.{Reserved}
+use Rattle.turn_reservations.specs.Held.{reservation_of}
+
+module _ {X Y : Type 0} (f : X → Y) (p : Y → Bool) where
+  pub find_mapped : (xs : List X) → find p (map f xs) ≡ option_map f (find (λ x. p (f x)) xs)
+  find_mapped [] = refl
+  find_mapped (x ∷ xs) = here (p (f x)) (find_mapped xs)
+    where
+      here : (b : Bool) → find p (map f xs) ≡ option_map f (find (λ y. p (f y)) xs) → cond b (Some (f x)) (find p (map f xs)) ≡ option_map f (cond b (Some x) (find (λ y. p (f y)) xs))
+      here true more = refl
+      here false more = more
+
+  pub filter_mapped : (xs : List X) → filter p (map f xs) ≡ map f (filter (λ x. p (f x)) xs)
+  filter_mapped [] = refl
+  filter_mapped (x ∷ xs) = here (p (f x)) (filter_mapped xs)
+    where
+      here : (b : Bool) → filter p (map f xs) ≡ map f (filter (λ y. p (f y)) xs) → cond b (f x ∷ filter p (map f xs)) (filter p (map f xs)) ≡ map f (cond b (x ∷ filter (λ y. p (f y)) xs) (filter (λ y. p (f y)) xs))
+      here true more = ap (λ (ys : List Y). f x ∷ ys) more
+      here false more = more
+
+-- ---- The tokens of those that have expired
+
+abbrev pub told : (now : ℕ) → List Reserved → List ℕ
+told now xs = map (λ r. r.token) (filter (λ r. not (nat_lt now r.until)) xs)
+
+told_more : (now : ℕ) (xs : List Reserved) (i : ℕ) (d : Reserved) → i < length xs
+    → told now (take (i + 1) xs) ≡ told now (take i xs) ++ map (λ (r : Reserved). r.token) (cond (not (nat_lt now (get_or xs i d).until)) (get_or xs i d ∷ []) [])
+told_more now xs i d within =
+    ap (map (λ (r : Reserved). r.token)) (filter_more (λ (r : Reserved). not (nat_lt now r.until)) xs i d within)
+    ∙ map-append (λ (r : Reserved). r.token) (filter (λ r. not (nat_lt now r.until)) (take i xs)) (cond (not (nat_lt now (get_or xs i d).until)) (get_or xs i d ∷ []) [])
+
+-- one more that has expired, or hasn't
+pub told_over : (now : ℕ) (xs : List Reserved) (i : ℕ) (d : Reserved) → i < length xs → nat_lt now (get_or xs i d).until ≡ false
+    → told now (take (i + 1) xs) ≡ told now (take i xs) ++ (get_or xs i d).token ∷ []
+told_over now xs i d within is =
+    told_more now xs i d within ∙ ap (λ (b : Bool). told now (take i xs) ++ map (λ (r : Reserved). r.token) (cond (not b) (get_or xs i d ∷ []) [])) is
+
+pub told_held : (now : ℕ) (xs : List Reserved) (i : ℕ) (d : Reserved) → i < length xs → nat_lt now (get_or xs i d).until ≡ true
+    → told now (take (i + 1) xs) ≡ told now (take i xs)
+told_held now xs i d within is =
+    told_more now xs i d within ∙ (ap (λ (b : Bool). told now (take i xs) ++ map (λ (r : Reserved). r.token) (cond (not b) (get_or xs i d ∷ []) [])) is
+    ∙ append-nil (told now (take i xs)))
+
+tokens_mapped : (xs : List Reserved) → map (λ (r : Reservation). r.token) (map reservation_of xs) ≡ map (λ (r : Reserved). r.token) xs
+tokens_mapped [] = refl
+tokens_mapped (x ∷ xs) = ap (λ (ts : List ℕ). x.token ∷ ts) (tokens_mapped xs)
+
+-- they are those of the machine's reservations
+pub told_mapped : (now : ℕ) (xs : List Reserved) → map (λ (r : Reservation). r.token) (filter (λ r. not (is_held now r)) (map reservation_of xs)) ≡ told now xs
+told_mapped now xs =
+    ap (map (λ (r : Reservation). r.token)) (filter_mapped reservation_of (λ r. not (is_held now r)) xs)
+    ∙ tokens_mapped (filter (λ r. not (nat_lt now r.until)) xs)

@@ -1,0 +1,3 @@
+mod HeldLemmas
+mod SteppingLemmas
+mod AskingLemmas
