@@ -146,6 +146,8 @@ static void take_message(source *from, unsigned kind, const stun_types_address *
         if (kind == COUNT(methods) - 1) {
             if (how / 16 == 0) append(&message, 0x0006, "user", 4);
             if (how / 16 == 1) finger(&message);
+            if (how / 16 == 2) append(&message, 0x001A, "", 0);
+            if (how / 16 >= 8) take_credentials(from, client);
             return;
         }
         take_asked(from, methods[kind]);
@@ -158,11 +160,11 @@ static void take_message(source *from, unsigned kind, const stun_types_address *
         if (how == 77) append(&message, 0x001A, "", 0);
     } else {
         message.length = 4 + take(from) % 8;
-        memset(message.bytes, 0, message.length + 4);
+        memset(message.bytes, 0, message.length + 16);
         message.bytes[0] = (uint8_t)(how / 4 % 16 == 15 ? take(from) : channel_of(how) >> 8);
         message.bytes[1] = (uint8_t)channel_of(how);
         message.bytes[3] = (uint8_t)(message.length - 4);
-        message.length += how / 4 % 4;
+        message.length += how / 4 % 16;
     }
     if (take(from) % 16 == 15 && message.length > 0) change(&message, from);
 }

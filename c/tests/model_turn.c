@@ -438,7 +438,7 @@ static void channel_data(model_turn *turn, uint64_t now, const stun_types_five_t
     size_t data;
     if (length < 4) return;
     data = model_number(bytes + 2);
-    if (length < 4 + data || length > 4 + model_padded(data)) return;
+    if (length < 4 + data) return;
     advance(turn, now);
     there = allocation_of(turn, from);
     channel = there == NULL ? NULL : channel_of(there, model_number(bytes));
@@ -454,14 +454,6 @@ static void indication(model_turn *turn, uint64_t now, const stun_types_five_tup
     advance(turn, now);
     there = allocation_of(turn, from);
     if (there != NULL) relay(turn, there, &peer, data->value_at, data->length, done);
-}
-
-/* The code of the reply to a Binding request. */
-static uint32_t binding_code(const view *it) {
-    size_t i;
-    for (i = 0; i < it->shown.count; i++)
-        if (it->shown.all[i].type < 0x8000) return 420;
-    return 0;
 }
 
 void model_turn_client(model_turn *turn, uint64_t now, const stun_types_five_tuple *from,
@@ -485,7 +477,7 @@ void model_turn_client(model_turn *turn, uint64_t now, const stun_types_five_tup
     if ((type & 0x0110) != 0) return;
     if (method == STUN_TYPES_METHOD_BINDING) {
         done->action.kind = STUN_TYPES_TURN_RESPONSE;
-        done->action.code = binding_code(&it);
+        done->action.code = is_comprehended(&it) ? 0 : 420;
     }
     if (method == STUN_TYPES_METHOD_ALLOCATE || method == STUN_TYPES_METHOD_REFRESH
         || method == STUN_TYPES_METHOD_CREATE_PERMISSION

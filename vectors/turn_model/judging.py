@@ -8,7 +8,8 @@ FRESH = b"obMatJos2wAAA1790"
 # SHA-256 and MD5, without parameters.
 LIST = bytes.fromhex("0002000000010000")
 ALGORITHM_NAMES = {bytes.fromhex("00020000"): "sha256", bytes.fromhex("00010000"): "md5"}
-# The attributes of RFC 8489 and of RFC 8656 that a request of TURN may have.
+# The attributes of RFC 8489 and of RFC 8656 that the server knows. Those that a message isn't expected to
+# have are ignored (RFC 8489, 6.3).
 KNOWN = {
     0x0001, wire.USERNAME, wire.INTEGRITY, wire.ERROR_CODE, wire.UNKNOWN, wire.CHANNEL_NUMBER, wire.LIFETIME,
     wire.PEER, wire.DATA, wire.REALM, wire.NONCE, wire.RELAYED, wire.FAMILY, wire.EVEN_PORT, wire.TRANSPORT,
@@ -59,8 +60,7 @@ class Site(Server):
 
     def channel_data(self, client, octets):
         length = int.from_bytes(octets[2:4])
-        most = 4 + length + -length % 4
-        if len(octets) < 4 or not 4 + length <= len(octets) <= most:
+        if len(octets) < 4 or len(octets) < 4 + length:
             return self.note("cut-channel-data", "dropped")
         return self.channel(client, int.from_bytes(octets[:2]), octets[4 : 4 + length])
 
@@ -72,7 +72,7 @@ class Site(Server):
         return self.send(client, peer, data)
 
     def binding(self, message):
-        unknown = message.unknown(set())
+        unknown = message.unknown(KNOWN)
         return self.note("binding", f"420:{types(unknown)}:unsigned" if unknown else "ok:mapped:unsigned")
 
     # credentials

@@ -62,7 +62,7 @@ IsFoundIn =
 
 -- ---- The reply
 
-replied_as : (source : SocketAddr) (r text : List ℕ) → IsBindingRequest r → text ≡ binding_reply source r → reply source r ≡ Some text
+replied_as : (source : SocketAddr) (r text : List ℕ) → IsBindingRequest r → text ≡ binding_reply [] source r → reply source r ≡ Some text
 unfolding reply
 replied_as source r text request is =
     ap (λ (o : Option StunParseError). if is_some o then None else reply_by_type (class_of (type_field r)) (method_of (type_field r)) source r) request.parses
@@ -122,7 +122,7 @@ learns classes bits answering found source r bytes range request none =
     let kind = response_type Success r in
     let id = id_field r in
     let id_fits = id_small r bytes request.parses in
-    let plain : unfinished_reply source r ≡ response Success r (success_reply source r) = ap (reply_for source r) none in
+    let plain : unfinished_reply [] source r ≡ response Success r (success_reply source r) = ap (reply_for source r) none in
     let done = finish (nth r FINGERPRINT 0) kind id (success_reply source r) (success_unfinished source r (bits Success (method_of (type_field r))) id_fits) in
     let all = success_reply source r ++ done.more in
     let text = message_encoding kind id all in
@@ -171,8 +171,8 @@ learns_error classes bits answering found source r (x ∷ xs) bytes request is s
     let id = id_field r in
     let id_fits = id_small r bytes request.parses in
     let frame = parsed_frame r request.parses in
-    let few : length (x ∷ xs) ≤ 16384 = omega (arith, ap length is, request_is r bytes request.parses, framed_length r frame, field_fits r bytes) in
-    let plain : unfinished_reply source r ≡ response ErrorClass r (unknown_reply (x ∷ xs)) =
+    let few : length (x ∷ xs) ≤ 16384 = omega (arith, ap length is, request_is [] r bytes request.parses, framed_length r frame, field_fits r bytes) in
+    let plain : unfinished_reply [] source r ≡ response ErrorClass r (unknown_reply (x ∷ xs)) =
     ap (reply_for source r) is
     ∙ ap (λ (b : Bool). option_map_or (response ErrorClass r) (if b then (if lacks [] r then Some bad_reply else None) else Some (unknown_reply (x ∷ xs))) (response Success r (success_reply source r)))
     (ne_eqb (length (x ∷ xs)) 0 (λ e. omega (arith, e))) in

@@ -156,12 +156,12 @@ finished_size true text long =
     omega (arith, appended_length text FINGERPRINT (fingerprint_value text (length text)) (omega (arith, long)) (lit< tt) (omega (arith, four)), four)
 
 -- how long the whole reply is
-pub whole_is : (source : SocketAddr) (r : List ℕ) (len whole : ℕ) (finishes : Bool) → finishes ≡ is_some (nth r FINGERPRINT 0) → len ≡ length (unfinished_reply source r) → 20 ≤ len → whole ≡ len + (if finishes then 8 else 0)
-    → whole ≡ length (binding_reply source r)
-whole_is source r len whole finishes is len-is long whole-is =
-    let text = unfinished_reply source r in
+pub whole_is : (supported : List AttributeType) (source : SocketAddr) (r : List ℕ) (len whole : ℕ) (finishes : Bool) → finishes ≡ is_some (nth r FINGERPRINT 0) → len ≡ length (unfinished_reply supported source r) → 20 ≤ len → whole ≡ len + (if finishes then 8 else 0)
+    → whole ≡ length (binding_reply supported source r)
+whole_is supported source r len whole finishes is len-is long whole-is =
+    let text = unfinished_reply supported source r in
     whole-is ∙ ap (λ (b : Bool). len + (if b then 8 else 0)) is ∙ ap (λ (n : ℕ). n + (if is_some (nth r FINGERPRINT 0) then 8 else 0)) len-is ∙ sym (finished_size (is_some (nth r FINGERPRINT 0)) text (omega (arith, len-is, long)))
 
 -- a FINGERPRINT makes it no shorter
-pub finished_longer : (source : SocketAddr) (r : List ℕ) → 20 ≤ length (unfinished_reply source r) → length (unfinished_reply source r) ≤ length (binding_reply source r)
-finished_longer source r long = omega (arith, finished_size (is_some (nth r FINGERPRINT 0)) (unfinished_reply source r) long)
+pub finished_longer : (supported : List AttributeType) (source : SocketAddr) (r : List ℕ) → 20 ≤ length (unfinished_reply supported source r) → length (unfinished_reply supported source r) ≤ length (binding_reply supported source r)
+finished_longer supported source r long = omega (arith, finished_size (is_some (nth r FINGERPRINT 0)) (unfinished_reply supported source r) long)

@@ -13,7 +13,7 @@ use Rattle.stun_base.specs.declared.message_class.MessageClass.{MessageClass}
 use Rattle.stun_base.specs.declared.message_class.MessageClass.TheVariants.{Request, Indication, Success, Error as ErrorClass}
 use Rattle.stun_base.specs.MessageTypes.{class_of, method_of}
 use Rattle.stun_values.specs.Addresses.{family, address_value, IsXored, xored_value}
-use Rattle.stun_server.specs.Reply.{binding_reply, reply_by_type, reply}
+use Rattle.stun_server.specs.Reply.{comprehended, binding_reply, reply_by_type, reply}
 
 same_family : (x a : IpAddr) → is_ipv6 x ≡ is_ipv6 a → family x ≡ family a
 same_family (V4 x) (V4 a) e = refl
@@ -51,9 +51,9 @@ none_to_method source d b parses same request other =
     rw (parses, class, method) refl
 
 pub one_to_binding : (source : SocketAddr) (d b : List ℕ) → parse_fault d ≡ None → b ≡ d → class_of (type_field b) ≡ Request → (method_of (type_field b) == BINDING) ≡ true
-    → reply source d ≡ Some (binding_reply source b)
+    → reply source d ≡ Some (binding_reply comprehended source b)
 unfolding reply
 one_to_binding source d b parses same request binding =
     let class : class_of (type_field d) ≡ Request = ap (λ (x : List ℕ). class_of (type_field x)) (sym same) ∙ request in
     let method : (method_of (type_field d) == BINDING) ≡ true = ap (λ (x : List ℕ). method_of (type_field x) == BINDING) (sym same) ∙ binding in
-    rw (parses, class, method) (ap (λ (x : List ℕ). Some (binding_reply source x)) (sym same))
+    rw (parses, class, method) (ap (λ (x : List ℕ). Some (binding_reply comprehended source x)) (sym same))

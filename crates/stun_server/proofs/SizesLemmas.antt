@@ -1,5 +1,5 @@
 -- How long a reply is beside its request.
-use Rattle.std.proofs.Common.{◌≡◌, ℕ, ◌+◌, ◌*◌, ◌≤◌, Bool, true, false, cond, eqb, List, [], ◌∷◌, ◌++◌, length, drop, map, Option, Some, None, inl, inr, refl, sym, ap, ◌∙◌, lit<, arith}
+use Rattle.std.proofs.Common.{◌≡◌, ℕ, ◌+◌, ◌*◌, ◌≤◌, Bool, true, false, cond, eqb, List, [], ◌∷◌, ◌++◌, length, drop, map, Option, Some, None, inl, inr, refl, sym, ap, subst, ◌∙◌, lit<, arith}
 use Rattle.std.specs.Prelude.{◌⊎◌, if◌then◌else◌, bit_xor, find, is_some, slice_get, codes}
 use Rattle.std.specs.List.{filter, zip, AllByRecursion}
 use Rattle.std.specs.Option.{option_map_or}
@@ -36,7 +36,7 @@ use Rattle.stun_values.specs.ErrorValues.{error_value}
 use Rattle.stun_values.specs.TypeLists.{types_encoding}
 use Rattle.stun_values.proofs.ListsLemmas.{length_of_twos}
 use Rattle.stun_types.specs.Replies.{response_type, own_software, error_attribute, bad_reply, unknown_reply, is_unknown, lacks, unknown_types}
-use Rattle.stun_server.specs.Reply.{success_reply, response, unfinished_reply, binding_reply, reply_by_type, reply}
+use Rattle.stun_server.specs.Reply.{comprehended, success_reply, response, unfinished_reply, binding_reply, reply_by_type, reply}
 use Rattle.stun_server.specs.Sizes.{IsSmall}
 use Rattle.stun_server.proofs.ReplyLemmas.{xored_spelled}
 
@@ -99,28 +99,28 @@ abbrev tail_of : Option Shown → ℕ
 tail_of o = if is_some o then 8 else 0
 
 -- a request has a header, four bytes for each unknown type, and its FINGERPRINT
-request_by : (r : List ℕ) (o : Option Shown) → IsBytes r → parse_fault r ≡ None → find is_fingerprint (shown r) ≡ o → 20 + 4 * length (unknown_types [] r) + tail_of o ≤ length r
-request_by r None bytes parses found =
+request_by : (supported : List AttributeType) (r : List ℕ) (o : Option Shown) → IsBytes r → parse_fault r ≡ None → find is_fingerprint (shown r) ≡ o → 20 + 4 * length (unknown_types supported r) + tail_of o ≤ length r
+request_by supported r None bytes parses found =
     let frame = (framed r parses) in
     let s = shows r bytes frame in
     let attributes = shown_prefix (chain (drop 20 r)) in
-    let same : length (unknown_types [] r) ≡ length (filter (is_unknown []) (map type_of_shown (placed 20 attributes))) = ap (λ (xs : List Shown). length (filter (is_unknown []) (map type_of_shown xs))) s.shown_is in
-    omega (arith, same, takes_four (is_unknown []) 20 attributes, (header_there r (frame_there r frame)).0, length-drop 20 r, ap length s.whole, length-append (encodings attributes) s.others)
-request_by r (Some y) bytes parses found =
+    let same : length (unknown_types supported r) ≡ length (filter (is_unknown supported) (map type_of_shown (placed 20 attributes))) = ap (λ (xs : List Shown). length (filter (is_unknown supported) (map type_of_shown xs))) s.shown_is in
+    omega (arith, same, takes_four (is_unknown supported) 20 attributes, (header_there r (frame_there r frame)).0, length-drop 20 r, ap length s.whole, length-append (encodings attributes) s.others)
+request_by supported r (Some y) bytes parses found =
     let frame = (framed r parses) in
     let s = shows r bytes frame in
     let attributes = shown_prefix (chain (drop 20 r)) in
-    let same : length (unknown_types [] r) ≡ length (filter (is_unknown []) (map type_of_shown (placed 20 attributes))) = ap (λ (xs : List Shown). length (filter (is_unknown []) (map type_of_shown xs))) s.shown_is in
+    let same : length (unknown_types supported r) ≡ length (filter (is_unknown supported) (map type_of_shown (placed 20 attributes))) = ap (λ (xs : List Shown). length (filter (is_unknown supported) (map type_of_shown xs))) s.shown_is in
     let four : length y.value ≡ 4 = ap length (right_value r y (shown_right r attributes y s parses found)) ∙ fingerprint_length r y.offset in
-    let eight = takes_eight (is_unknown []) 20 attributes y refl s.each (ap (find is_fingerprint) (sym s.shown_is) ∙ found) four in
+    let eight = takes_eight (is_unknown supported) 20 attributes y refl s.each (ap (find is_fingerprint) (sym s.shown_is) ∙ found) four in
     omega (arith, same, eight, (header_there r (frame_there r frame)).0, length-drop 20 r, ap length s.whole, length-append (encodings attributes) s.others)
 
-pub request_is : (r : List ℕ) → IsBytes r → parse_fault r ≡ None → 20 + 4 * length (unknown_types [] r) + tail_of (nth r FINGERPRINT 0) ≤ length r
-request_is r bytes parses = request_by r (nth r FINGERPRINT 0) bytes parses (sym (first_kept is_fingerprint (shown r)))
+pub request_is : (supported : List AttributeType) (r : List ℕ) → IsBytes r → parse_fault r ≡ None → 20 + 4 * length (unknown_types supported r) + tail_of (nth r FINGERPRINT 0) ≤ length r
+request_is supported r bytes parses = request_by supported r (nth r FINGERPRINT 0) bytes parses (sym (first_kept is_fingerprint (shown r)))
 
 -- so it shows few unknown types
-pub few_types : (r : List ℕ) → IsBytes r → parse_fault r ≡ None → length (unknown_types [] r) ≤ 16384
-few_types r bytes parses = omega (arith, request_is r bytes parses, framed_length r (framed r parses), field_fits r bytes)
+pub few_types : (supported : List AttributeType) (r : List ℕ) → IsBytes r → parse_fault r ≡ None → length (unknown_types supported r) ≤ 16384
+few_types supported r bytes parses = omega (arith, request_is supported r bytes parses, framed_length r (framed r parses), field_fits r bytes)
 
 -- ---- What a reply has
 
@@ -179,8 +179,8 @@ reply_short : (source : SocketAddr) (r : List ℕ) (types : List AttributeType) 
 reply_short source r [] few = let short = success_short source r in let long = length-message (response_type Success r) (id_field r) (success_reply source r) in (omega (arith, long), omega (arith, short), omega (arith, short), omega (arith, short))
 reply_short source r (x ∷ xs) few = let is = reply_unknown source r x xs ∙ unknown_short r x xs few in (omega (arith, is), omega (arith, is), omega (arith, is), omega (arith, is))
 
-pub unfinished_short : (source : SocketAddr) (r : List ℕ) → length (unknown_types [] r) ≤ 16384 → (20 ≤ length (unfinished_reply source r)) × (length (unfinished_reply source r) ≤ 65547)
-unfinished_short source r few = let short = reply_short source r (unknown_types [] r) few in (short.0, omega (arith, short.3, few))
+pub unfinished_short : (supported : List AttributeType) (source : SocketAddr) (r : List ℕ) → length (unknown_types supported r) ≤ 16384 → (20 ≤ length (unfinished_reply supported source r)) × (length (unfinished_reply supported source r) ≤ 65547)
+unfinished_short supported source r few = let short = reply_short source r (unknown_types supported r) few in (short.0, omega (arith, short.3, few))
 
 finished_by : (o : Option Shown) (text : List ℕ) → 20 ≤ length text → length (if is_some o then appended text FINGERPRINT (fingerprint_value text (length text)) else text) ≡ length text + tail_of o
 finished_by None text long = omega arith
@@ -203,29 +203,33 @@ by_method : (b : Bool) (text t : List ℕ) → cond b (Some text) None ≡ Some 
 by_method true text t e = cc
 by_method false text t e = absurd cc
 
-by_class : (class : MessageClass) (method : ℕ) (source : SocketAddr) (r t : List ℕ) → reply_by_type class method source r ≡ Some t → t ≡ binding_reply source r
-by_class Request method source r t e = by_method (eqb method BINDING) (binding_reply source r) t e
+by_class : (class : MessageClass) (method : ℕ) (source : SocketAddr) (r t : List ℕ) → reply_by_type class method source r ≡ Some t → t ≡ binding_reply comprehended source r
+by_class Request method source r t e = by_method (eqb method BINDING) (binding_reply comprehended source r) t e
 by_class Indication method source r t e = absurd cc
 by_class Success method source r t e = absurd cc
 by_class ErrorClass method source r t e = absurd cc
 
 -- a reply is one to a message that parses
-pub reply_there : (source : SocketAddr) (r t : List ℕ) → reply source r ≡ Some t → (parse_fault r ≡ None) × (t ≡ binding_reply source r)
+pub reply_there : (source : SocketAddr) (r t : List ℕ) → reply source r ≡ Some t → (parse_fault r ≡ None) × (t ≡ binding_reply comprehended source r)
 unfolding reply
 reply_there source r t e = parsed (parse_fault r) refl e
   where
-    parsed : (o : Option _) → parse_fault r ≡ o → cond (is_some o) None (reply_by_type (class_of (type_field r)) (method_of (type_field r)) source r) ≡ Some t → (parse_fault r ≡ None) × (t ≡ binding_reply source r)
+    parsed : (o : Option _) → parse_fault r ≡ o → cond (is_some o) None (reply_by_type (class_of (type_field r)) (method_of (type_field r)) source r) ≡ Some t → (parse_fault r ≡ None) × (t ≡ binding_reply comprehended source r)
     parsed None is made = (is, by_class (class_of (type_field r)) (method_of (type_field r)) source r t made)
     parsed (Some reported) is made = absurd cc
+
+pub small_to_messages : (supported : List AttributeType) (source : SocketAddr) (r : List ℕ) → IsBytes r → parse_fault r ≡ None → IsSmall r (binding_reply supported source r)
+small_to_messages supported source r bytes parses =
+    let text = binding_reply supported source r in
+    let types = unknown_types supported r in
+    let has = request_is supported r bytes parses in
+    let most : length r ≤ 65555 = omega (arith, framed_length r (framed r parses), field_fits r bytes) in
+    let short = reply_short source r types (omega (arith, has, most)) in
+    let whole : length text ≡ length (unfinished_reply supported source r) + tail_of (nth r FINGERPRINT 0) = finished_by (nth r FINGERPRINT 0) (unfinished_reply supported source r) short.0 in
+    let b = bounds (length types) (tail_of (nth r FINGERPRINT 0)) (length (unfinished_reply supported source r)) (length text) (length r) short.1 short.2 short.3 whole has most (tail_is (nth r FINGERPRINT 0)) in
+    record { growth = b.0; factor = b.1; whole = b.2 }
 
 pub small : (source : SocketAddr) (r t : List ℕ) → IsBytes r → reply source r ≡ Some t → IsSmall r t
 small source r t bytes made =
     let there = reply_there source r t made in
-    let frame = (framed r there.0) in
-    let types = unknown_types [] r in
-    let has = request_is r bytes there.0 in
-    let most : length r ≤ 65555 = omega (arith, framed_length r frame, field_fits r bytes) in
-    let short = reply_short source r types (omega (arith, has, most)) in
-    let whole : length t ≡ length (unfinished_reply source r) + tail_of (nth r FINGERPRINT 0) = ap length there.1 ∙ finished_by (nth r FINGERPRINT 0) (unfinished_reply source r) short.0 in
-    let b = bounds (length types) (tail_of (nth r FINGERPRINT 0)) (length (unfinished_reply source r)) (length t) (length r) short.1 short.2 short.3 whole has most (tail_is (nth r FINGERPRINT 0)) in
-    record { growth = b.0; factor = b.1; whole = b.2 }
+    subst (IsSmall r) (sym there.1) (small_to_messages comprehended source r bytes there.0)

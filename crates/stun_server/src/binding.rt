@@ -7,7 +7,7 @@ ghost use Rattle.stun_grammar.specs.Headers.{type_field};
 ghost use Rattle.stun_base.specs.declared.message_class.MessageClass.TheVariants.{Request};
 ghost use Rattle.stun_base.specs.MessageTypes.{class_of};
 ghost use Rattle.stun_types.specs.Message.{message_bytes};
-ghost use Rattle.stun_server.specs.Reply.{binding_reply, reply};
+ghost use Rattle.stun_server.specs.Reply.{comprehended, binding_reply, reply};
 ghost use Rattle.stun_server.specs.InSlice.{answer_in, slice_after};
 
 use crate::written::Reply;
@@ -21,7 +21,7 @@ fn request_in(datagram: &[u8]) -> Option<Message<'_>>
     ensures { MatchOption result ((source : SocketAddr) → reply source datagram.now ≡ None)
         (λ request. (class_of (type_field (message_bytes request)) ≡ Request)
         × ((source : SocketAddr) → reply source datagram.now
-        ≡ Some (binding_reply source (message_bytes request)))) }
+        ≡ Some (binding_reply comprehended source (message_bytes request)))) }
 {
     let request = match Message::from_bytes(datagram) {
         Ok(request) => request,

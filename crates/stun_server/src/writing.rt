@@ -8,7 +8,7 @@ ghost use Rattle.stun_grammar.specs.Writing.{greatest_length};
 ghost use Rattle.stun_base.specs.declared.message_class.MessageClass.TheVariants.{Success, Error as ErrorClass};
 ghost use Rattle.stun_types.specs.Message.{message_bytes};
 ghost use Rattle.stun_types.specs.Replies.{unknown_reply, unknown_types};
-ghost use Rattle.stun_server.specs.Reply.{comprehended, success_reply, response, unfinished_reply};
+ghost use Rattle.stun_server.specs.Reply.{success_reply, response, unfinished_reply};
 ghost use Rattle.stun_server.specs.InSlice.{overlaid};
 
 use crate::unknown::ListedTypes;
@@ -88,9 +88,10 @@ fn write_success(request: &Message<'_>, source: SocketAddr, slice: &mut [u8]) ->
 /// How many bytes the error response 420 has.
 #[inline(always)]
 fn refusal_length(unknown: &ListedTypes<'_>) -> usize
-    requires { 0 < length (unknown_types comprehended unknown.now.request.now) }
+    requires { 0 < length (unknown_types unknown.now.supported.now unknown.now.request.now) }
     ensures length { let r = unknown.now.request.now in
-        result ≡ length (response ErrorClass r (unknown_reply (unknown_types comprehended r))) }
+        let types = unknown_types unknown.now.supported.now r in
+        result ≡ length (response ErrorClass r (unknown_reply types)) }
 {
     // for the prover: there are at most 16384 types
     let _count = unknown.count();
@@ -103,16 +104,19 @@ fn refusal_length(unknown: &ListedTypes<'_>) -> usize
 /// 6.3.1). Returns how many bytes it has.
 fn write_refusal(request: &Message<'_>, unknown: &ListedTypes<'_>, slice: &mut [u8]) -> usize
     requires its { unknown.now.request.now ≡ message_bytes request.now }
-    requires some { 0 < length (unknown_types comprehended (message_bytes request.now)) }
-    requires few { length (unknown_types comprehended (message_bytes request.now)) ≤ 16384 }
+    requires some { let types = unknown_types unknown.now.supported.now (message_bytes request.now) in
+        0 < length types }
+    requires few { let types = unknown_types unknown.now.supported.now (message_bytes request.now) in
+        length types ≤ 16384 }
     requires room { let r = message_bytes request.now in
-        length (response ErrorClass r (unknown_reply (unknown_types comprehended r)))
-        ≤ length slice.old }
+        let types = unknown_types unknown.now.supported.now r in
+        length (response ErrorClass r (unknown_reply types)) ≤ length slice.old }
     ensures length { let r = message_bytes request.now in
-        result ≡ length (response ErrorClass r (unknown_reply (unknown_types comprehended r))) }
+        let types = unknown_types unknown.now.supported.now r in
+        result ≡ length (response ErrorClass r (unknown_reply types)) }
     ensures slice { let r = message_bytes request.now in
-        slice.new
-        ≡ overlaid (response ErrorClass r (unknown_reply (unknown_types comprehended r))) slice.old }
+        let types = unknown_types unknown.now.supported.now r in
+        slice.new ≡ overlaid (response ErrorClass r (unknown_reply types)) slice.old }
 {
     let len = write_header(request, MessageClass::Error, slice);
     let len = append(attribute_types::SOFTWARE, &OwnName, len, slice);
@@ -128,7 +132,8 @@ pub(crate) fn unfinished_length(
     unknown: &ListedTypes<'_>,
 ) -> usize
     requires its { unknown.now.request.now ≡ message_bytes request.now }
-    ensures length { result ≡ length (unfinished_reply source (message_bytes request.now)) }
+    ensures length { let r = message_bytes request.now in
+        result ≡ length (unfinished_reply unknown.now.supported.now source r) }
     ensures bounds { 20 ≤ result × result ≤ 65547 }
 {
     if unknown.count() == 0 {
@@ -146,11 +151,12 @@ pub(crate) fn write_unfinished(
     slice: &mut [u8],
 ) -> usize
     requires its { unknown.now.request.now ≡ message_bytes request.now }
-    requires room { length (unfinished_reply source (message_bytes request.now))
-        ≤ length slice.old }
-    ensures length { result ≡ length (unfinished_reply source (message_bytes request.now)) }
-    ensures slice { slice.new
-        ≡ overlaid (unfinished_reply source (message_bytes request.now)) slice.old }
+    requires room { let r = message_bytes request.now in
+        length (unfinished_reply unknown.now.supported.now source r) ≤ length slice.old }
+    ensures length { let r = message_bytes request.now in
+        result ≡ length (unfinished_reply unknown.now.supported.now source r) }
+    ensures slice { let r = message_bytes request.now in
+        slice.new ≡ overlaid (unfinished_reply unknown.now.supported.now source r) slice.old }
 {
     if unknown.count() == 0 {
         write_success(request, source, slice)

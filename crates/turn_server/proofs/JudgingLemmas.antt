@@ -15,7 +15,6 @@ use Rattle.stun_base.specs.MessageTypes.{class_of, method_of}
 use Rattle.stun_authentication.specs.Answers.{Decision, accept, refuse, discard, not_a_request}
 use Rattle.stun_authentication.specs.Identities.{Who}
 use Rattle.stun_authentication.specs.Lookups.{UserKey}
-use Rattle.stun_server.specs.Reply.{reply}
 use Rattle.turn_attrs.specs.Channels.{channel_field}
 use Rattle.stun_endpoints.specs.declared.endpoints.FiveTuple.{FiveTuple}
 use Rattle.turn_table.specs.Events.{Request as TableRequest, asks}
@@ -72,8 +71,7 @@ decision_is_so site d discard decided = tt
 decision_is_so site d not_a_request decided = tt
 
 binding_is_so : (site : Site) (d : List ℕ) → IsOfClass Request d → method_of (type_field d) ≡ BINDING → IsSo site d binding
-unfolding reply
-binding_is_so site d of_class is source = rw (of_class.parses, of_class.class_is, is) refl
+binding_is_so site d of_class is = record { of_class = of_class; method_is = is }
 
 request_is_so : (site : Site) (d : List ℕ) → IsOfClass Request d → IsSo site d (requested site (method_of (type_field d)) d)
 request_is_so site d of_class =

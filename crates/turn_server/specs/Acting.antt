@@ -12,10 +12,10 @@ use Rattle.turn_table.specs.Steps.{Step, at, step}
 use Rattle.turn_server.specs.Wanted.{request_with}
 use Rattle.turn_server.specs.Judging.{Site, Judged, dropped, binding, refused, unknown, sent, sent_on, asked, judge}
 
--- nothing; the reply of a server without credentials, to a Binding request; an error response that isn't
--- signed (400, 401 or 438); one that lists the types that aren't comprehended (420), signed by the
--- user's key; the answer to a user's request, signed by their key, and the number of the socket that was
--- ready, if it is an allocation's now; or data to a peer, from the socket of this number
+-- nothing; the reply to a Binding request, which isn't signed; an error response that isn't signed either
+-- (400, 401 or 438); one that lists the types that aren't comprehended (420), signed by the user's key;
+-- the answer to a user's request, signed by their key, and the number of the socket that was ready, if it
+-- is an allocation's now; or data to a peer, from the socket of this number
 pub data Act : Type 0 where
   drops : Act
   binds : Act

@@ -1,6 +1,5 @@
 -- ChannelData messages as datagrams (RFC 8656, sections 12.4 to 12.6).
-use Rattle.std.specs.Prelude.{ℕ, ◌+◌, ◌/◌, Bool, ◌&&◌, ◌||◌, List, length, take, drop, Option, None, Some, nat_lt, nat_le, if◌then◌else◌}
-use Rattle.stun_grammar.specs.Numbers.{padded_length}
+use Rattle.std.specs.Prelude.{ℕ, ◌+◌, ◌/◌, Bool, ◌&&◌, List, length, take, drop, Option, None, Some, nat_lt, nat_le, if◌then◌else◌}
 use Rattle.turn_attrs.specs.Channels.{data_length}
 
 -- the greatest number of a channel (section 12), and that of RFC 5766
@@ -11,11 +10,10 @@ last_channel old_channels = if old_channels then 0x7FFF else 0x4FFF
 abbrev pub is_channel_byte : (last_channel first : ℕ) → Bool
 is_channel_byte last_channel first = nat_le 0x40 first && nat_le first (last_channel / 256)
 
--- the data after a channel and a length, which may be padded to a multiple of 4: None if the datagram
--- is cut off, or longer
+-- the data after a channel and a length: None if the datagram is too short for it. Padding may follow
+-- (section 12.5), and whatever follows is ignored
 abbrev pub data_in : List ℕ → Option (List ℕ)
 data_in d =
     if nat_lt (length d) 4 then None else (
-    if nat_lt (length d) (4 + data_length d)
-    || nat_lt (padded_length (4 + data_length d)) (length d) then None
+    if nat_lt (length d) (4 + data_length d) then None
     else Some (take (data_length d) (drop 4 d)))

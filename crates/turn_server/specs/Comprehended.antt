@@ -1,6 +1,7 @@
 -- The types that this server comprehends, of those below 0x8000 (RFC 8489, section 14): those of RFC
 -- 8489 and RFC 8656, without DONT-FRAGMENT, since it can't set the DF bit (RFC 8656, sections 7.2 and
--- 11.2). Of these a message may show some that mean nothing in it: they are ignored (RFC 8489, section 6.3).
+-- 11.2). Of these a message may show some that mean nothing in it, as a Binding request those of
+-- credentials: they are ignored (RFC 8489, section 6.3).
 use Rattle.std.specs.Prelude.{ℕ, Bool, List, [], ◌∷◌, length, ◌==◌}
 use Rattle.stun_grammar.specs.declared.attribute_type.AttributeType.{AttributeType}
 use Rattle.stun_grammar.specs.AttributeTypes.{MAPPED_ADDRESS, USERNAME, MESSAGE_INTEGRITY, ERROR_CODE, UNKNOWN_ATTRIBUTES, REALM, NONCE, MESSAGE_INTEGRITY_SHA256, PASSWORD_ALGORITHM, USERHASH, XOR_MAPPED_ADDRESS}

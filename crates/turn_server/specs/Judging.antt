@@ -38,10 +38,10 @@ pub record Site : Type 0 where
   pub client : Ip
   pub sockets : Sockets
 
--- What comes of a datagram: nothing; a Binding request, which gets the reply of a server without
--- credentials; an error response that isn't signed (400, 401 or 438); an error response with the types
--- that aren't comprehended (420), signed by the user's key; the data of a Send indication, or of a
--- ChannelData message; or what a user's request asks the table for, whose answer is signed by the key
+-- What comes of a datagram: nothing; the reply to a Binding request, whose credentials aren't looked at;
+-- an error response that isn't signed (400, 401 or 438); an error response with the types that aren't
+-- comprehended (420), signed by the user's key; the data of a Send indication, or of a ChannelData message;
+-- or what a user's request asks the table for, whose answer is signed by the key
 pub data Judged : Type 0 where
   dropped : Judged
   binding : Judged

@@ -1,8 +1,8 @@
 -- What a judgment says of the datagram.
 use Rattle.std.specs.Prelude.{◌≡◌, ℕ, true, false, List, None, Some}
-use Rattle.std.specs.declared.net.socket_addr.SocketAddr.{SocketAddr}
 use Rattle.stun_grammar.specs.declared.integrity_algorithm.IntegrityAlgorithm.{IntegrityAlgorithm}
 use Rattle.stun_grammar.specs.Headers.{type_field}
+use Rattle.stun_grammar.specs.Names.{BINDING}
 use Rattle.stun_grammar.specs.Parsing.{parse_fault}
 use Rattle.stun_base.specs.declared.message_class.MessageClass.{MessageClass}
 use Rattle.stun_base.specs.declared.message_class.MessageClass.TheVariants.{Request, Indication}
@@ -11,7 +11,6 @@ use Rattle.stun_authentication.specs.Answers.{Decision, accept, refuse}
 use Rattle.stun_authentication.specs.Identities.{Who}
 use Rattle.stun_authentication.specs.Lookups.{UserKey}
 use Rattle.stun_authentication.specs.LongTerm.{long_term}
-use Rattle.stun_server.specs.Reply.{binding_reply, reply}
 use Rattle.turn_attrs.specs.Channels.{channel_field}
 use Rattle.turn_server.specs.ChannelMessages.{data_in}
 use Rattle.turn_server.specs.Comprehended.{is_comprehended}
@@ -55,6 +54,11 @@ pub record IsUnknown (site : Site) (d : List ℕ) (key : UserKey) (reply_algorit
   pub accepted : IsDecided site d (accept who key algorithm reply_algorithm)
   pub not_comprehended : is_comprehended d ≡ false
 
+-- d is a Binding request
+pub record IsBinding (d : List ℕ) : Type 0 where
+  pub of_class : IsOfClass Request d
+  pub method_is : method_of (type_field d) ≡ BINDING
+
 -- d is a Send indication
 pub record IsSend (d : List ℕ) : Type 0 where
   pub of_class : IsOfClass Indication d
@@ -63,7 +67,7 @@ pub record IsSend (d : List ℕ) : Type 0 where
 -- whatever isn't dropped is what it is taken for
 abbrev pub IsSo : Site → List ℕ → Judged → Type 0
 IsSo site d dropped = Unit {0}
-IsSo site d binding = (source : SocketAddr) → reply source d ≡ Some (binding_reply source d)
+IsSo site d binding = IsBinding d
 IsSo site d (refused refusal) = IsDecided site d (refuse refusal)
 IsSo site d (unknown key reply_algorithm) = IsUnknown site d key reply_algorithm
 IsSo site d (sent peer bytes) = IsSend d × (sent_by d ≡ Some (peer, bytes))

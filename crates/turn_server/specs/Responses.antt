@@ -19,6 +19,7 @@ use Rattle.turn_server.specs.declared.action.Response.{Response}
 use Rattle.turn_server.specs.Access.{asked_by, software_in}
 use Rattle.turn_server.specs.Acting.{Act, binds, refuses, refuses_types, responds}
 use Rattle.turn_server.specs.Answers.{answer_text, answer_refusal, unknown_text, unknown_refusal}
+use Rattle.turn_server.specs.Comprehended.{comprehended}
 use Rattle.stun_endpoints.specs.Conversions.{socket_of}
 
 -- a response: its text, why it isn't written, whether writing it takes memory, and the code of an error
@@ -31,14 +32,15 @@ pub record Owed : Type 0 where
 
 -- ---- Which response
 
--- to a Binding request: that of a server without credentials
+-- to a Binding request: a 420 if it shows a type that isn't comprehended, otherwise success. It isn't
+-- signed, whatever the request shows of credentials
 abbrev pub binding_owed : (client : Endpoint) → List ℕ → Owed
 binding_owed client d =
     record {
-      text = binding_reply (socket_of client) d;
+      text = binding_reply comprehended (socket_of client) d;
       fault = None;
       takes_memory = false;
-      code = reply_code d;
+      code = reply_code comprehended d;
     }
 
 -- a 400, 401 or 438, which isn't signed, and asks for credentials

@@ -8,7 +8,6 @@ ghost use Rattle.turn_server.specs.Spans.{IsData};
 use crate::Span;
 use byteorder::{BigEndian, ByteOrder};
 use stun_framing::ChannelRange;
-use stun_types::attribute::pad_attribute_len;
 
 /// Whether the number of a channel begins with this byte.
 pub(crate) fn is_channel_byte(old_channels: bool, first: u8) -> bool
@@ -22,8 +21,8 @@ pub(crate) fn is_channel_byte(old_channels: bool, first: u8) -> bool
     range.begins_with(first)
 }
 
-/// The number of a channel and the data on it, which the datagram may pad to a multiple of 4. `None`
-/// if it is cut off, or longer.
+/// The number of a channel and the data on it. What follows the data is ignored. `None` if the datagram is
+/// shorter than its length field says.
 pub(crate) fn read_channel_data(datagram: &[u8]) -> Option<(u16, Span)>
     ensures { MatchOption result (data_in datagram.now ≡ None)
         (λ read. (read.0 ≡ channel_field datagram.now) × IsData datagram.now read.1) }
@@ -33,7 +32,7 @@ pub(crate) fn read_channel_data(datagram: &[u8]) -> Option<(u16, Span)>
     }
     let channel = BigEndian::read_u16(datagram);
     let end = 4 + BigEndian::read_u16(&datagram[2..4]) as usize;
-    if datagram.len() < end || pad_attribute_len(end) < datagram.len() {
+    if datagram.len() < end {
         return None;
     }
     let data = Span {

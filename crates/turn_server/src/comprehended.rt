@@ -15,10 +15,10 @@ use turn_attrs::attribute_types::{
     RESERVATION_TOKEN, XOR_PEER_ADDRESS, XOR_RELAYED_ADDRESS,
 };
 
-/// The types below 0x8000 that the server comprehends in a request or an indication of TURN: those
-/// of RFC 8489 and of RFC 8656, without DONT-FRAGMENT, since it can't set the DF bit (RFC 8656,
-/// sections 7.2 and 11.2). One of them that means nothing in a message is ignored (RFC 8489,
-/// section 6.3). With this list [`UnknownTypes::new`] lists the others that a request shows, for a
+/// The types below 0x8000 that the server comprehends in a request or an indication: those of RFC 8489
+/// and of RFC 8656, without DONT-FRAGMENT, since it can't set the DF bit (RFC 8656, sections 7.2 and
+/// 11.2). One of them that means nothing in a message is ignored, as USERNAME in a Binding request (RFC
+/// 8489, section 6.3). With this list [`UnknownTypes::new`] lists the others that a request shows, for a
 /// 420.
 ///
 /// # Examples

@@ -24,7 +24,7 @@ pub(crate) struct Asking<'d> {
 pub(crate) enum Judged<'d> {
     /// Nothing.
     Dropped,
-    /// A Binding request, which gets the reply of a server without credentials.
+    /// A Binding request. It gets a reply that isn't signed.
     Binding(Asking<'d>),
     /// A request that is refused by an error response that isn't signed: 400, 401 or 438.
     Refused(Asking<'d>, Refusal),

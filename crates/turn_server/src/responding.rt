@@ -21,7 +21,7 @@ ghost use Rattle.turn_server.specs.Responses.{IsWritten, IsResponse, binding_owe
 use crate::access::{Access, seconds};
 use crate::answers::write_answer;
 use crate::unknown::write_unknown;
-use crate::{Opened, Response};
+use crate::{COMPREHENDED, Opened, Response};
 use std::alloc::Global;
 use std::net::SocketAddr;
 use stun_authentication::{
@@ -49,12 +49,12 @@ fn copied(message: &[u8], buffer: &mut [u8]) -> Result<usize, StunWriteError>
     Ok(message.len())
 }
 
-/// The reply to a Binding request.
+/// The reply to a Binding request. What it shows of [`COMPREHENDED`] is ignored.
 pub(crate) fn bind(request: &Message<'_>, client: Endpoint, buffer: &mut [u8]) -> Response
     ensures { IsResponse (binding_owed client (message_bytes request.now)) None buffer.old buffer.new
         result }
 {
-    let reply = BindingReply::to(*request, SocketAddr::from(client));
+    let reply = BindingReply::supporting(*request, SocketAddr::from(client), &COMPREHENDED);
     Response {
         written: reply.write_into(buffer),
         code: reply.code(),

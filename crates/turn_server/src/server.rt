@@ -323,15 +323,18 @@ impl<const P: usize, const C: usize> TurnServer<P, C> {
     /// The first of these that applies:
     ///
     /// - A first byte of 0x40 to 0x4F, or to 0x7F with `old_channels`, begins a ChannelData message. Its
-    ///   data goes to the peer that the channel is bound to. It is dropped if it is cut off or longer
-    ///   than its padding (RFC 8656, section 12.6).
+    ///   data goes to the peer that the channel is bound to. It is dropped if it is shorter than its
+    ///   length field says (RFC 8656, section 12.6). What follows the data, such as padding, is ignored.
     /// - What doesn't parse as a message is dropped, and so is a response, an indication other than Send,
     ///   and a request of another method than Binding, Allocate, Refresh, CreatePermission and
     ///   ChannelBind (RFC 8489, section 6.3).
     /// - The data of a Send indication goes to the peer that it names. It is dropped if it shows a type
     ///   below 0x8000 that isn't one of [`COMPREHENDED`](crate::COMPREHENDED), if XOR-PEER-ADDRESS or DATA
     ///   is missing, or if the address is malformed (RFC 8656, section 11.2).
-    /// - A Binding request gets the reply of a server without credentials (`stun_server::reply`).
+    /// - A Binding request gets a response that isn't signed, whatever credentials it shows
+    ///   (`stun_server::Reply`): success with the client's address, or a 420 if it shows a type below 0x8000
+    ///   that isn't one of `COMPREHENDED`. What it shows of `COMPREHENDED`, such as USERNAME, is ignored (RFC
+    ///   8489, section 6.3).
     /// - A request whose long-term credentials aren't accepted is refused with 400, 401 or 438, or
     ///   discarded, as `stun_authentication::authenticate_long_term` says. The response isn't signed.
     /// - A request that shows a type below 0x8000 that isn't one of `COMPREHENDED` is refused with 420,

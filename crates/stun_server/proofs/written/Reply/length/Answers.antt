@@ -8,5 +8,5 @@ pub returns-then-self : goal.returns-then-self
 returns-then-self c =
     let reply = c.args.self.now in
     let len = c.unfinished_length-len in
-    whole_is reply.source (message_bytes reply.request) len.result (len.result + 8) reply.is_finished reply.finished len.ensures.length len.ensures.bounds.0
+    whole_is reply.unknown.supported.now reply.source (message_bytes reply.request) len.result (len.result + 8) reply.is_finished reply.finished len.ensures.length len.ensures.bounds.0
     (ap (λ (b : Bool). len.result + (if b then 8 else 0)) (sym c.if-self.true))
