@@ -1,7 +1,7 @@
--- The responses to the requests of users that the table answers (RFC 8656, sections 7.2, 8.2, 10.2 and
+-- The responses to the requests of users for allocations (RFC 8656, sections 7.2, 8.2, 10.2 and
 -- 12.2), and the one to a request that isn't comprehended. They are signed by the user's key (RFC
 -- 8489, section 9.2.4).
-use Rattle.std.specs.Prelude.{ℕ, List, [], ◌∷◌, ◌++◌, length, drop, Option, None, Some, is_some, nat_lt, if◌then◌else◌}
+use Rattle.std.specs.Prelude.{ℕ, List, [], ◌∷◌, ◌++◌, map, filter, length, drop, Option, None, Some, nat_lt, ◌==◌, if◌then◌else◌}
 use Rattle.std.specs.Option.{option_or}
 use Rattle.stun_grammar.specs.declared.attribute_type.AttributeType.{AttributeType}
 use Rattle.stun_grammar.specs.declared.error.StunWriteError.{StunWriteError}
@@ -19,19 +19,18 @@ use Rattle.stun_values.specs.Addresses.{xored_value}
 use Rattle.stun_values.specs.ErrorValues.{error_value, making_fault}
 use Rattle.stun_values.specs.TypeLists.{types_encoding}
 use Rattle.stun_attributes.specs.DefaultReasons.{default_reason}
-use Rattle.stun_types.specs.LookingUp.{nth}
 use Rattle.stun_types.specs.Replies.{error_attribute, response_type, unknown_types}
 use Rattle.stun_authentication.specs.Policies.{is_fingerprinted}
 use Rattle.stun_authentication.specs.Writing.{no_room, sizes, print_steps, signed_reply, signing_refusal, step_sizes}
-use Rattle.turn_attrs.specs.Turn.{ADDITIONAL_ADDRESS_FAMILY, ADDRESS_ERROR_CODE, LIFETIME, XOR_RELAYED_ADDRESS}
+use Rattle.turn_attrs.specs.Turn.{ADDRESS_ERROR_CODE, LIFETIME, XOR_RELAYED_ADDRESS}
 use Rattle.stun_endpoints.specs.declared.endpoints.Endpoint.{Endpoint}
-use Rattle.turn_table.specs.Events.{Answer as TableAnswer, allocated, refreshed, done, refused}
+use Rattle.turn_machine.specs.Events.{Given, Missing, Answer, allocated, refreshed, done, refused}
 use Rattle.turn_server.specs.Comprehended.{comprehended}
 use Rattle.stun_endpoints.specs.Conversions.{socket_of}
 
 -- ---- The attributes
 
-abbrev pub answer_class : TableAnswer → MessageClass
+abbrev pub answer_class : Answer → MessageClass
 answer_class (refused code) = ErrorClass
 answer_class _ = Success
 
@@ -42,27 +41,39 @@ address_attribute type id e = canonical type (xored_value id (socket_of e))
 abbrev pub lifetime_attribute : (lifetime : ℕ) → Attribute
 lifetime_attribute lifetime = canonical LIFETIME (be32 lifetime)
 
--- an allocation: the relayed address, the lifetime, and the address of the client (section 7.2)
-abbrev pub allocation_attributes : (id : ℕ) → (client relayed : Endpoint) → (lifetime : ℕ)
-    → List Attribute
-allocation_attributes id client relayed lifetime =
-    address_attribute XOR_RELAYED_ADDRESS id relayed ∷ lifetime_attribute lifetime
-    ∷ address_attribute XOR_MAPPED_ADDRESS id client ∷ []
+-- one, or none
+abbrev pub listed_one : {X : Type 0} → Option X → List X
+listed_one None = []
+listed_one (Some x) = x ∷ []
 
--- an ADDRESS-ERROR-CODE of 440 for IPv6 (section 18.12)
-abbrev pub no_ipv6 : Attribute
-no_ipv6 = canonical ADDRESS_ERROR_CODE (2 ∷ drop 1 (error_value 440 (default_reason 440)))
+-- the relayed address of a family
+abbrev pub relayed_of : (id family : ℕ) → List Given → List Attribute
+relayed_of id family given =
+    map (λ g. address_attribute XOR_RELAYED_ADDRESS id g.address) (filter (λ g. g.family == family) given)
 
--- a request for an address of each family is met in part: it gets none of IPv6 (section 7.2, the end
--- of check 9)
-abbrev pub family_left : (r : List ℕ) → List Attribute
-family_left r = if is_some (nth r ADDITIONAL_ADDRESS_FAMILY 0) then no_ipv6 ∷ [] else []
+-- IPv4 first
+abbrev pub relayed_attributes : (id : ℕ) → List Given → List Attribute
+relayed_attributes id given = relayed_of id 1 given ++ relayed_of id 2 given
 
--- what the response to r says: to Allocate the allocation, and the family that is left; to Refresh the
--- lifetime (section 8.2); to another request nothing; or the error, with the reason phrase of its code
-abbrev pub answer_content : (r : List ℕ) → (client : Endpoint) → TableAnswer → List Attribute
-answer_content r client (allocated relayed lifetime) =
-    allocation_attributes (id_field r) client relayed lifetime ++ family_left r
+-- an ADDRESS-ERROR-CODE: the family, and otherwise as an ERROR-CODE (section 18.12)
+abbrev pub missing_attribute : Missing → Attribute
+missing_attribute m =
+    canonical ADDRESS_ERROR_CODE (m.family ∷ drop 1 (error_value m.code (default_reason m.code)))
+
+-- an allocation: its relayed addresses, the lifetime, and the address of the client (section 7.2); then each
+-- family that is asked for and that it has no address of (the end of check 9)
+abbrev pub allocation_attributes : (id : ℕ) → (client : Endpoint) → List Given → (lifetime : ℕ)
+    → List Missing → List Attribute
+allocation_attributes id client given lifetime missing =
+    relayed_attributes id given
+    ++ (lifetime_attribute lifetime ∷ address_attribute XOR_MAPPED_ADDRESS id client ∷ []
+    ++ map missing_attribute missing)
+
+-- what the response to r says: to Allocate the allocation; to Refresh the lifetime (section 8.2); to another
+-- request nothing; or the error, with the reason phrase of its code
+abbrev pub answer_content : (r : List ℕ) → (client : Endpoint) → Answer → List Attribute
+answer_content r client (allocated given lifetime missing) =
+    allocation_attributes (id_field r) client given lifetime missing
 answer_content r client (refreshed lifetime) = lifetime_attribute lifetime ∷ []
 answer_content r client done = []
 answer_content r client (refused code) = error_attribute code (default_reason code) ∷ []
@@ -74,7 +85,7 @@ software_attributes (Some name) = canonical SOFTWARE name ∷ []
 
 -- the attributes of the response to r, before it is signed
 abbrev pub answer_attributes : (software : Option (List ℕ)) → (client : Endpoint) → (r : List ℕ)
-    → TableAnswer → List Attribute
+    → Answer → List Attribute
 answer_attributes software client r answer =
     answer_content r client answer ++ software_attributes software
 
@@ -87,7 +98,7 @@ signed_response class r attributes algorithm key =
     signed_reply (is_fingerprinted r) (response_type class r) (id_field r) attributes algorithm key
 
 abbrev pub answer_text : (software : Option (List ℕ)) → (client : Endpoint) → (r : List ℕ)
-    → TableAnswer → (key : List ℕ) → IntegrityAlgorithm → List ℕ
+    → Answer → (key : List ℕ) → IntegrityAlgorithm → List ℕ
 answer_text software client r answer key algorithm =
     signed_response (answer_class answer) r (answer_attributes software client r answer) algorithm key
 
@@ -115,18 +126,18 @@ finish_refusal greatest class r attributes made_for algorithm =
     (step_sizes (sign algorithm [] ∷ print_steps (is_fingerprinted r))))
 
 -- the code of an error is none of an ERROR-CODE
-abbrev pub code_fault : TableAnswer → Option StunWriteError
+abbrev pub code_fault : Answer → Option StunWriteError
 code_fault (refused code) = making_fault code (default_reason code)
 code_fault _ = None
 
 -- the code, or the first attribute that doesn't fit
-abbrev pub unfinished_refusal : (greatest : Option ℕ) → TableAnswer → List Attribute
+abbrev pub unfinished_refusal : (greatest : Option ℕ) → Answer → List Attribute
     → Option StunWriteError
 unfinished_refusal greatest answer attributes =
     option_or (code_fault answer) (no_room greatest 20 (sizes attributes))
 
 abbrev pub answer_refusal : (greatest : Option ℕ) → (software : Option (List ℕ)) → (client : Endpoint)
-    → (r : List ℕ) → TableAnswer → (made_for : Option IntegrityAlgorithm) → IntegrityAlgorithm
+    → (r : List ℕ) → Answer → (made_for : Option IntegrityAlgorithm) → IntegrityAlgorithm
     → Option StunWriteError
 answer_refusal greatest software client r answer made_for algorithm =
     let attributes = answer_attributes software client r answer in
@@ -150,6 +161,6 @@ unknown_refusal greatest r made_for algorithm =
     option_or (listing_refusal greatest r)
     (finish_refusal greatest ErrorClass r (unknown_attributes r) made_for algorithm)
 
--- the codes of the table's answers, and those that refuse a request by its bytes
-abbrev pub TABLE_CODES : List ℕ
-TABLE_CODES = 400 ∷ 403 ∷ 437 ∷ 440 ∷ 441 ∷ 442 ∷ 443 ∷ 486 ∷ 508 ∷ []
+-- the codes of the answers to requests
+abbrev pub ANSWER_CODES : List ℕ
+ANSWER_CODES = 400 ∷ 403 ∷ 437 ∷ 440 ∷ 441 ∷ 442 ∷ 443 ∷ 486 ∷ 508 ∷ []

@@ -19,7 +19,9 @@ use Rattle.turn_attrs.specs.Channels.{channel_field}
 use Rattle.stun_endpoints.specs.declared.endpoints.Ip.{Ip}
 use Rattle.stun_endpoints.specs.declared.endpoints.Endpoint.{Endpoint}
 use Rattle.stun_endpoints.specs.declared.endpoints.FiveTuple.{FiveTuple}
-use Rattle.turn_table.specs.Events.{Event, asks, sends, sends_on}
+use Rattle.turn_machine.specs.Relays.{State}
+use Rattle.turn_machine.specs.Events.{Event, asks, sends, sends_on, ticks}
+use Rattle.turn_allocations.specs.declared.families.Families.{Families}
 use Rattle.turn_server.specs.declared.sockets.Sockets.{Sockets}
 use Rattle.turn_server.specs.ChannelMessages.{is_channel_byte, data_in}
 use Rattle.turn_server.specs.Comprehended.{is_comprehended}
@@ -41,7 +43,7 @@ pub record Site : Type 0 where
 -- What comes of a datagram: nothing; the reply to a Binding request, whose credentials aren't looked at;
 -- an error response that isn't signed (400, 401 or 438); an error response with the types that aren't
 -- comprehended (420), signed by the user's key; the data of a Send indication, or of a ChannelData message;
--- or what a user's request asks the table for, whose answer is signed by the key
+-- or what a user's request asks for, whose answer is signed by the key
 pub data Judged : Type 0 where
   dropped : Judged
   binding : Judged
@@ -51,16 +53,16 @@ pub data Judged : Type 0 where
   sent_on : (channel : ℕ) → List ℕ → Judged
   asked : (user : ℕ) → Wanted → UserKey → (reply_algorithm : IntegrityAlgorithm) → Judged
 
--- the event of the table that it is, on a 5-tuple, if it is one. A socket gets this number if an
--- allocation is opened
-abbrev pub event_of : FiveTuple → (relay : ℕ) → Judged → Option Event
-event_of tuple relay (sent peer bytes) = Some (sends tuple peer bytes)
-event_of tuple relay (sent_on channel bytes) = Some (sends_on tuple channel bytes)
-event_of tuple relay (asked user wanted key algorithm) =
-    Some (asks tuple user (request_with relay wanted))
-event_of tuple relay _ = None
+-- the event that it is, on a 5-tuple in a state, if the sockets that are used get these numbers. By a datagram
+-- that asks for nothing and has no data, time passes
+abbrev pub event_of : FiveTuple → State → (numbers : Families ℕ) → Judged → Event
+event_of tuple state numbers (sent peer bytes) = sends tuple peer false bytes
+event_of tuple state numbers (sent_on channel bytes) = sends_on tuple channel bytes
+event_of tuple state numbers (asked user wanted key algorithm) =
+    asks tuple user (request_with state numbers wanted)
+event_of tuple state numbers _ = ticks
 
--- whether it asks the table
+-- whether it is a user's request
 abbrev pub is_asked : Judged → Bool
 is_asked (asked user wanted key algorithm) = true
 is_asked _ = false
@@ -124,8 +126,8 @@ judge last_channel site (first ∷ more) =
     if is_channel_byte last_channel first then channel_message (first ∷ more)
     else message site (first ∷ more)
 
--- ---- Whether it depends on the key of its user what comes of a datagram: it is a request to the table, and
--- none of the checks of its credentials decides that come before the key is looked up
+-- ---- Whether it depends on the key of its user what comes of a datagram: it is a request for the allocations,
+-- and none of the checks of its credentials decides that come before the key is looked up
 
 abbrev pub request_needs_key : Policy → (nonces : List ℕ → Known) → (method : ℕ) → List ℕ → Bool
 request_needs_key policy nonces method d = asks_table method && needs_key_by policy nonces d

@@ -18,7 +18,9 @@ use Rattle.turn_server.specs.Indications.{sent_by}
 use Rattle.turn_server.specs.Judging.{Site, Judged, dropped, binding, refused, unknown, sent, sent_on, asked, SEND}
 use Rattle.turn_server.specs.Requests.{asks_table, request_of}
 use Rattle.turn_server.specs.Wanted.{Wanted, request_with}
-use Rattle.turn_table.specs.Events.{Request as TableRequest}
+use Rattle.turn_machine.specs.Events.{Request as MachineRequest}
+use Rattle.turn_machine.specs.Relays.{State}
+use Rattle.turn_allocations.specs.declared.families.Families.{Families}
 use Rattle.turn_server.specs.Accounts.{account_of}
 
 -- d parses as a message of a class
@@ -30,7 +32,7 @@ pub record IsOfClass (class : MessageClass) (d : List ℕ) : Type 0 where
 abbrev pub credentials : Site → List ℕ → Decision
 credentials site d = long_term site.policy site.realm site.nonces site.keys d
 
--- d is a request to the table, and its credentials decide so
+-- d is a request for the allocations, and its credentials decide so
 pub record IsDecided (site : Site) (d : List ℕ) (decision : Decision) : Type 0 where
   pub of_class : IsOfClass Request d
   pub asks : asks_table (method_of (type_field d)) ≡ true
@@ -74,11 +76,11 @@ IsSo site d (sent peer bytes) = IsSend d × (sent_by d ≡ Some (peer, bytes))
 IsSo site d (sent_on channel bytes) = (channel ≡ channel_field d) × (data_in d ≡ Some bytes)
 IsSo site d (asked user wanted key reply_algorithm) = IsAsked site d user wanted key reply_algorithm
 
--- it asks the table for this
-pub record Asks (site : Site) (d : List ℕ) (user : ℕ) (request : TableRequest) : Type 0 where
-  pub relay : ℕ
+-- it asks for this in a state
+pub record Asks (site : Site) (state : State) (d : List ℕ) (user : ℕ) (request : MachineRequest) : Type 0 where
+  pub numbers : Families ℕ
   pub wanted : Wanted
   pub key : UserKey
   pub reply_algorithm : IntegrityAlgorithm
   pub asked : IsAsked site d user wanted key reply_algorithm
-  pub request_is : request ≡ request_with relay wanted
+  pub request_is : request ≡ request_with state numbers wanted

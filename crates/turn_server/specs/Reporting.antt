@@ -13,7 +13,7 @@ use Rattle.turn_server.specs.declared.judged.Judged.TheVariants.{Dropped, Bindin
 use Rattle.turn_server.specs.Judging.{Site, Judged, dropped, binding, refused, unknown, sent, sent_on, asked}
 use Rattle.turn_server.specs.Requests.{request_of}
 use Rattle.turn_server.specs.Spans.{StandsAt}
-use Rattle.turn_table.specs.Users.{user_number}
+use Rattle.turn_slots.specs.Users.{user_number}
 
 -- the user's key, and the algorithm that the answer is signed by
 pub record Signs (key : UserKey) (reply_algorithm : IntegrityAlgorithm) (accepted : Accepted)

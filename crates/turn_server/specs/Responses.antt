@@ -12,12 +12,13 @@ use Rattle.stun_authentication.specs.Writing.{no_room}
 use Rattle.stun_server.specs.InSlice.{written_in, slice_after}
 use Rattle.stun_server.specs.Reply.{binding_reply, reply_code}
 use Rattle.stun_endpoints.specs.declared.endpoints.Endpoint.{Endpoint}
-use Rattle.turn_table.specs.Events.{Answer, allocated, refused}
+use Rattle.turn_machine.specs.Events.{Answer, refused}
+use Rattle.turn_allocations.specs.declared.families.Families.{Families}
 use Rattle.turn_server.specs.declared.access.Access.{Access}
 use Rattle.turn_server.specs.declared.action.Opened.{Opened}
 use Rattle.turn_server.specs.declared.action.Response.{Response}
 use Rattle.turn_server.specs.Access.{asked_by, software_in}
-use Rattle.turn_server.specs.Acting.{Act, binds, refuses, refuses_types, responds}
+use Rattle.turn_server.specs.Acting.{Act, binds, refuses, refuses_types, responds, none_opened}
 use Rattle.turn_server.specs.Answers.{answer_text, answer_refusal, unknown_text, unknown_refusal}
 use Rattle.turn_server.specs.Comprehended.{comprehended}
 use Rattle.stun_endpoints.specs.Conversions.{socket_of}
@@ -81,19 +82,14 @@ abbrev pub owed : Access → (now : ℕ) → (client : Endpoint) → List ℕ �
 owed access now client d binds = Some (binding_owed client d)
 owed access now client d (refuses refusal) = Some (refusal_owed access now client d refusal)
 owed access now client d (refuses_types key algorithm) = Some (types_owed d key algorithm)
-owed access now client d (responds answer took key algorithm) =
+owed access now client d (responds answer opened key algorithm) =
     Some (answer_owed access client d answer key algorithm)
 owed access now client d _ = None
 
--- the socket of an allocation that was opened
-abbrev pub opened_with : Answer → (took : Option ℕ) → Option Opened
-opened_with (allocated relayed lifetime) (Some number) =
-    Some (record { number = number; relayed = relayed })
-opened_with _ _ = None
-
-abbrev pub opened_by : Act → Option Opened
-opened_by (responds answer took key algorithm) = opened_with answer took
-opened_by _ = None
+-- the sockets that are used from now on
+abbrev pub opened_by : Act → Families (Option Opened)
+opened_by (responds answer opened key algorithm) = opened
+opened_by _ = none_opened
 
 -- ---- How it is written
 
@@ -108,7 +104,7 @@ IsWritten takes_memory fault text before after written =
     ⊎ ((takes_memory ≡ true) × ((written ≡ Err OutOfMemory) × (after ≡ before)))
 
 -- what a program gets of a response
-pub record IsResponse (owed : Owed) (opened : Option Opened) (before after : List ℕ)
+pub record IsResponse (owed : Owed) (opened : Families (Option Opened)) (before after : List ℕ)
     (response : Response) : Type 0 where
   pub written_is : IsWritten owed.takes_memory owed.fault owed.text before after response.written
   pub code_is : response.code ≡ owed.code

@@ -2,6 +2,7 @@
 
 use stun_endpoints::{Endpoint, FiveTuple};
 use stun_types::message::StunWriteError;
+use turn_allocations::Families;
 
 /// What a program does for a client's datagram.
 #[derive(Clone, Copy, Debug, PartialEq, Eq)]
@@ -11,10 +12,12 @@ pub enum Action {
     /// It sends a response, which is at the start of the buffer, to the client, from the address that
     /// the datagram came to.
     Response(Response),
-    /// It sends data of the datagram to a peer, from the socket that it keeps by the number `relay`.
+    /// It sends data of the datagram to a peer, from the socket that it keeps by this number, with the DF
+    /// bit if `dont_fragment` is set (RFC 8656, section 14).
     ToPeer {
-        relay: u64,
+        number: u64,
         peer: Endpoint,
+        dont_fragment: bool,
         data: Span,
     },
 }
@@ -48,16 +51,16 @@ pub struct Response {
     pub written: Result<usize, StunWriteError>,
     /// The code of an error response; `None` of a success response.
     pub code: Option<u16>,
-    /// The socket that the request opened an allocation with, if it did.
-    pub opened: Option<Opened>,
+    /// For each address family the socket that the request opened a relayed address with, if it did.
+    pub opened: Families<Option<Opened>>,
 }
 
-/// A socket that was ready and is an allocation's from now on. The program keeps it in a map by
-/// `number`, which no other allocation has until `TurnServer::poll` returns it, and has another one
-/// ready for the next call.
+/// A socket that was ready and is a relayed address's from now on. The program keeps it in a map by
+/// `number`, which no other ever has, until `TurnServer::ended` returns it, and has another one ready for
+/// the next call.
 #[derive(Clone, Copy, Debug, PartialEq, Eq)]
 pub struct Opened {
-    /// The number by which [`Action::ToPeer`], `TurnServer::on_peer_datagram` and `TurnServer::poll`
+    /// The number by which [`Action::ToPeer`], `TurnServer::on_peer_datagram` and `TurnServer::ended`
     /// name the socket.
     pub number: u64,
     /// The socket's address, as it was offered.

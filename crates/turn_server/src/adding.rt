@@ -1,6 +1,6 @@
 //! Adding the attributes of a response, before it is signed.
 
-ghost use Rattle.std.specs.Prelude.{◌≡◌, ◌≤◌, ◌<◌, ◌^◌, ◌∷◌, ◌++◌, [], length};
+ghost use Rattle.std.specs.Prelude.{◌≡◌, ◌≤◌, ◌<◌, ◌^◌, ◌∷◌, ◌++◌, [], length, map};
 ghost use Rattle.std.specs.Option.{option_map};
 ghost use Rattle.stun_base.specs.declared.message_class.MessageClass.TheVariants.{Success};
 ghost use Rattle.stun_attributes.specs.ErrorCodes.{error_code, error_reason};
@@ -14,9 +14,10 @@ ghost use Rattle.stun_types.specs.Message.{message_bytes};
 ghost use Rattle.stun_types.specs.Replies.{error_attribute};
 ghost use Rattle.stun_authentication.specs.Writing.{Lengthens};
 ghost use Rattle.turn_attrs.specs.Turn.{XOR_RELAYED_ADDRESS, seconds_of};
-ghost use Rattle.turn_table.specs.Events.{allocated};
-ghost use Rattle.turn_table.specs.Outputs.{answer_of};
-ghost use Rattle.turn_server.specs.Answers.{answer_class, address_attribute, lifetime_attribute, allocation_attributes, no_ipv6, family_left, answer_content, software_attributes, answer_attributes, list_attribute};
+ghost use Rattle.turn_allocations.specs.Answers.{answer_of, code_of, given_list, missing_in, missing_list};
+ghost use Rattle.stun_values.specs.ErrorValues.{error_value};
+ghost use Rattle.stun_attributes.specs.DefaultReasons.{default_reason};
+ghost use Rattle.turn_server.specs.Answers.{answer_class, address_attribute, lifetime_attribute, relayed_attributes, listed_one, missing_attribute, allocation_attributes, answer_content, software_attributes, answer_attributes, list_attribute};
 
 use std::net::SocketAddr;
 use stun_endpoints::Endpoint;
@@ -25,12 +26,26 @@ use stun_types::attribute::{
 };
 use stun_types::message::{Message, StunWriteError, TransactionId};
 use stun_types::prelude::*;
-use turn_attrs::attribute_types::{ADDITIONAL_ADDRESS_FAMILY, ADDRESS_ERROR_CODE};
+use turn_allocations::{Answer, Families, Given, Refusal};
+use turn_attrs::attribute_types::ADDRESS_ERROR_CODE;
 use turn_attrs::{Lifetime, XorRelayedAddress};
-use turn_table::Reply;
 
-/// The value of an ADDRESS-ERROR-CODE for IPv6: the family, a zero, 440 and its reason phrase.
-const NO_IPV6: &[u8] = b"\x02\x00\x04\x28Address Family Not Supported";
+/// The value of an ERROR-CODE for a refusal, with its reason phrase.
+fn error_bytes(refusal: Refusal) -> &'static [u8]
+    ensures { result.now ≡ error_value (code_of refusal) (default_reason (code_of refusal)) }
+{
+    match refusal {
+        Refusal::BadRequest => b"\0\0\x04\x00Bad Request",
+        Refusal::Forbidden => b"\0\0\x04\x03Forbidden",
+        Refusal::AllocationMismatch => b"\0\0\x04\x25Allocation Mismatch",
+        Refusal::AddressFamilyNotSupported => b"\0\0\x04\x28Address Family Not Supported",
+        Refusal::WrongCredentials => b"\0\0\x04\x29Wrong Credentials",
+        Refusal::UnsupportedTransportProtocol => b"\0\0\x04\x2AUnsupported Transport Protocol",
+        Refusal::PeerAddressFamilyMismatch => b"\0\0\x04\x2BPeer Address Family Mismatch",
+        Refusal::AllocationQuotaReached => b"\0\0\x04\x56Allocation Quota Reached",
+        Refusal::InsufficientCapacity => b"\0\0\x05\x08Insufficient Capacity",
+    }
+}
 
 /// Adds an attribute.
 fn add_one<B: MessageWrite>(
@@ -151,25 +166,41 @@ fn add_lifetime<B: MessageWrite>(lifetime: u32, write: &mut B) -> Result<(), Stu
     push_lifetime(&Lifetime::new(lifetime), write)
 }
 
-/// Adds an ADDRESS-ERROR-CODE for IPv6.
-fn add_no_ipv6<B: MessageWrite>(write: &mut B) -> Result<(), StunWriteError>
-    ensures { Lengthens result (B.state write.old) (B.state write.new) (no_ipv6 ∷ []) }
-{
-    add_bytes(AttributeType(ADDRESS_ERROR_CODE), NO_IPV6, write)
-}
-
-/// Adds the family of which an Allocate request gets no address, if it asks for both.
-fn add_family_left<B: MessageWrite>(
-    request: &Message<'_>,
+/// Adds an ADDRESS-ERROR-CODE for a family of which a client has no relayed address, if there is a reason.
+fn add_missing<B: MessageWrite>(
+    family: u8,
+    missing: Option<Refusal>,
     write: &mut B,
 ) -> Result<(), StunWriteError>
     ensures { Lengthens result (B.state write.old) (B.state write.new)
-        (family_left (message_bytes request.now)) }
+        (map missing_attribute (missing_in family missing)) }
 {
-    if request.has_attribute(AttributeType(ADDITIONAL_ADDRESS_FAMILY)) {
-        add_no_ipv6(write)
-    } else {
-        Ok(())
+    let Some(refusal) = missing else {
+        return Ok(());
+    };
+    let error = error_bytes(refusal);
+    let mut value = [0; 34];
+    value[..error.len()].copy_from_slice(error);
+    value[0] = family;
+    add_bytes(
+        AttributeType(ADDRESS_ERROR_CODE),
+        &value[..error.len()],
+        write,
+    )
+}
+
+/// Adds the XOR-RELAYED-ADDRESS of a family, if there is one.
+fn add_given<B: MessageWrite>(
+    given: Option<Given>,
+    id: TransactionId,
+    write: &mut B,
+) -> Result<(), StunWriteError>
+    ensures { Lengthens result (B.state write.old) (B.state write.new)
+        (map (λ g. address_attribute XOR_RELAYED_ADDRESS id g.address) (listed_one given)) }
+{
+    match given {
+        Some(given) => add_relayed(given.address, id, write),
+        None => Ok(()),
     }
 }
 
@@ -187,41 +218,68 @@ fn add_software<B: MessageWrite>(
     }
 }
 
-/// Adds what a response says of an allocation.
-fn add_addresses<B: MessageWrite>(
-    relayed: Endpoint,
+/// Adds the XOR-RELAYED-ADDRESS of each relayed address.
+fn add_all_given<B: MessageWrite>(
+    given: Families<Option<Given>>,
+    id: TransactionId,
+    write: &mut B,
+) -> Result<(), StunWriteError>
+    ensures { Lengthens result (B.state write.old) (B.state write.new)
+        (relayed_attributes id (given_list given)) }
+{
+    add_given(given.ipv4, id, write)?;
+    add_given(given.ipv6, id, write)
+}
+
+/// Adds an ADDRESS-ERROR-CODE for each family of which a client has no relayed address.
+fn add_all_missing<B: MessageWrite>(
+    missing: Families<Option<Refusal>>,
+    write: &mut B,
+) -> Result<(), StunWriteError>
+    ensures { Lengthens result (B.state write.old) (B.state write.new)
+        (map missing_attribute (missing_list missing)) }
+{
+    add_missing(1, missing.ipv4, write)?;
+    add_missing(2, missing.ipv6, write)
+}
+
+/// Adds a LIFETIME, the address of the client, and what an allocation lacks.
+fn add_rest<B: MessageWrite>(
     lifetime: u32,
+    client: Endpoint,
+    missing: Families<Option<Refusal>>,
+    id: TransactionId,
+    write: &mut B,
+) -> Result<(), StunWriteError>
+    ensures { Lengthens result (B.state write.old) (B.state write.new)
+        (lifetime_attribute lifetime ∷ address_attribute XOR_MAPPED_ADDRESS id client ∷ []
+        ++ map missing_attribute (missing_list missing)) }
+{
+    add_lifetime(lifetime, write)?;
+    add_mapped(client, id, write)?;
+    add_all_missing(missing, write)
+}
+
+/// Adds what the success response to an Allocate request says.
+fn add_allocation<B: MessageWrite>(
+    given: Families<Option<Given>>,
+    lifetime: u32,
+    missing: Families<Option<Refusal>>,
     client: Endpoint,
     id: TransactionId,
     write: &mut B,
 ) -> Result<(), StunWriteError>
     ensures { Lengthens result (B.state write.old) (B.state write.new)
-        (allocation_attributes id client relayed lifetime) }
+        (allocation_attributes id client (given_list given) lifetime (missing_list missing)) }
 {
-    add_relayed(relayed, id, write)?;
-    add_lifetime(lifetime, write)?;
-    add_mapped(client, id, write)
-}
-
-/// Adds what the success response to an Allocate request says.
-fn add_allocation<B: MessageWrite>(
-    request: &Message<'_>,
-    relayed: Endpoint,
-    lifetime: u32,
-    client: Endpoint,
-    write: &mut B,
-) -> Result<(), StunWriteError>
-    ensures { Lengthens result (B.state write.old) (B.state write.new)
-        (answer_content (message_bytes request.now) client (allocated relayed lifetime)) }
-{
-    add_addresses(relayed, lifetime, client, request.transaction_id(), write)?;
-    add_family_left(request, write)
+    add_all_given(given, id, write)?;
+    add_rest(lifetime, client, missing, id, write)
 }
 
 /// Adds what a success response says.
 fn add_content<B: MessageWrite>(
     request: &Message<'_>,
-    reply: Reply,
+    reply: Answer,
     client: Endpoint,
     write: &mut B,
 ) -> Result<(), StunWriteError>
@@ -230,21 +288,30 @@ fn add_content<B: MessageWrite>(
         (answer_content (message_bytes request.now) client (answer_of reply)) }
 {
     match reply {
-        Reply::Allocated {
-            relayed,
+        Answer::Allocated {
+            given,
             lifetime,
-            ..
-        } => { add_allocation(request, relayed, lifetime, client, write) }
-        Reply::Refreshed(lifetime) => add_lifetime(lifetime, write),
-        Reply::Done => Ok(()),
-        Reply::Refused(_) => unreachable!(),
+            missing,
+        } => {
+            add_allocation(
+                given,
+                lifetime,
+                missing,
+                client,
+                request.transaction_id(),
+                write,
+            )
+        }
+        Answer::Refreshed(lifetime) => add_lifetime(lifetime, write),
+        Answer::Done => Ok(()),
+        Answer::Refused(_) => unreachable!(),
     }
 }
 
 /// Adds the attributes of a success response.
 pub(crate) fn add_success<B: MessageWrite>(
     request: &Message<'_>,
-    reply: Reply,
+    reply: Answer,
     client: Endpoint,
     software: Option<&Software>,
     write: &mut B,

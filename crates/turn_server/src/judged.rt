@@ -10,7 +10,7 @@ use crate::Span;
 use stun_authentication::{Accepted, Refusal};
 use stun_endpoints::Endpoint;
 use stun_types::message::Message;
-use turn_table::UserId;
+use turn_slots::UserId;
 
 /// A request that was read.
 #[derive(Drop)]
@@ -41,7 +41,7 @@ pub(crate) enum Judged<'d> {
         channel: u16,
         data: Span,
     },
-    /// A user's request for the table. The answer is signed by the user's key.
+    /// A user's request for the allocations. The answer is signed by the user's key.
     Asked {
         request: Asking<'d>,
         user: UserId,

@@ -199,7 +199,7 @@ fn message_needs_key<N: Nonces>(datagram: &[u8], policy: Policy, nonces: &N) -> 
 }
 
 /// Returns whether it depends on the key of its user what comes of a datagram, as [`judge`] says: it is
-/// a request to the table, and its long-term credentials are looked at
+/// a request for the allocations, and its long-term credentials are looked at
 /// (`stun_authentication::needs_key`). It reads no more than the header of anything else.
 pub(crate) fn needs_key<N: Nonces>(
     datagram: &[u8],

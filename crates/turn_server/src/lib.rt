@@ -1,5 +1,5 @@
-//! A TURN server over `turn_table`, without sockets or a clock (RFC 8656): what it takes a
-//! client's datagram for, what it keeps and what it does, and its responses.
+//! A TURN server over `turn_allocations`, without sockets or a clock (RFC 8656): what it takes a client's
+//! datagram for, what it keeps and what it does, and its responses.
 #![tactic(auto)]
 
 mod access;

@@ -12,11 +12,12 @@ ghost use Rattle.stun_authentication.specs.Lookups.{UserKey};
 ghost use Rattle.stun_authentication.specs.Refusing.{refusal_of, refusal_sizes};
 ghost use Rattle.stun_authentication.specs.Writing.{no_room};
 ghost use Rattle.stun_server.specs.InSlice.{written_in, slice_after};
-ghost use Rattle.turn_table.specs.Outputs.{answer_of, opened_in};
+ghost use Rattle.turn_allocations.specs.Answers.{answer_of};
 ghost use Rattle.turn_server.specs.Access.{asked_by, software_in};
+ghost use Rattle.turn_server.specs.Acting.{none_opened, opened_in, opened_one};
 ghost use Rattle.turn_server.specs.Answers.{answer_text, answer_refusal, unknown_text, unknown_refusal};
 ghost use Rattle.turn_server.specs.Reporting.{Signs};
-ghost use Rattle.turn_server.specs.Responses.{IsWritten, IsResponse, binding_owed, refusal_owed, types_owed, answer_owed, answer_code, opened_with};
+ghost use Rattle.turn_server.specs.Responses.{IsWritten, IsResponse, binding_owed, refusal_owed, types_owed, answer_owed, answer_code};
 
 use crate::access::{Access, seconds};
 use crate::answers::write_answer;
@@ -32,7 +33,13 @@ use stun_server::Reply as BindingReply;
 use stun_types::attribute::ErrorCode;
 use stun_types::message::{Message, MessageWriteVec, StunWriteError};
 use stun_types::prelude::*;
-use turn_table::Reply;
+use turn_allocations::{Answer, Families, Given};
+
+/// No socket is used.
+const NONE_OPENED: Families<Option<Opened>> = Families {
+    ipv4: None,
+    ipv6: None,
+};
 
 /// Copies a message to the start of a buffer, if that has room for it, and returns its length.
 fn copied(message: &[u8], buffer: &mut [u8]) -> Result<usize, StunWriteError>
@@ -51,14 +58,14 @@ fn copied(message: &[u8], buffer: &mut [u8]) -> Result<usize, StunWriteError>
 
 /// The reply to a Binding request. What it shows of [`COMPREHENDED`] is ignored.
 pub(crate) fn bind(request: &Message<'_>, client: Endpoint, buffer: &mut [u8]) -> Response
-    ensures { IsResponse (binding_owed client (message_bytes request.now)) None buffer.old buffer.new
-        result }
+    ensures { IsResponse (binding_owed client (message_bytes request.now)) none_opened buffer.old
+        buffer.new result }
 {
     let reply = BindingReply::supporting(*request, SocketAddr::from(client), &COMPREHENDED);
     Response {
         written: reply.write_into(buffer),
         code: reply.code(),
-        opened: None,
+        opened: NONE_OPENED,
     }
 }
 
@@ -126,14 +133,14 @@ pub(crate) fn refuse(
     buffer: &mut [u8],
 ) -> Response
     requires { class_of (type_field (message_bytes request.now)) ≡ Request }
-    ensures { IsResponse (refusal_owed access.now now client (message_bytes request.now) refusal) None
+    ensures { IsResponse (refusal_owed access.now now client (message_bytes request.now) refusal) none_opened
         buffer.old buffer.new result }
 {
     let client = SocketAddr::from(client);
     Response {
         written: write_refusal(alloc, access, now, client, request, refusal, buffer),
         code: Some(refusal.code()),
-        opened: None,
+        opened: NONE_OPENED,
     }
 }
 
@@ -164,13 +171,13 @@ pub(crate) fn refuse_types(
 ) -> Response
     requires { class_of (type_field (message_bytes request.now)) ≡ Request }
     ensures { (key : UserKey) (algorithm : IntegrityAlgorithm) → Signs key algorithm accepted.now
-        → IsResponse (types_owed (message_bytes request.now) key algorithm) None
+        → IsResponse (types_owed (message_bytes request.now) key algorithm) none_opened
         buffer.old buffer.new result }
 {
     Response {
         written: write_types(alloc, request, accepted, buffer),
         code: Some(ErrorCode::UNKNOWN_ATTRIBUTE),
-        opened: None,
+        opened: NONE_OPENED,
     }
 }
 
@@ -180,7 +187,7 @@ fn write_reply(
     access: &Access,
     client: Endpoint,
     request: &Message<'_>,
-    reply: Reply,
+    reply: Answer,
     accepted: &Accepted<'_>,
     buffer: &mut [u8],
 ) -> Result<usize, StunWriteError>
@@ -199,36 +206,49 @@ fn write_reply(
 }
 
 /// The code of an answer that is an error.
-fn code_of(reply: Reply) -> Option<u16>
+fn code_of(reply: Answer) -> Option<u16>
     ensures { result ≡ answer_code (answer_of reply) }
 {
     match reply {
-        Reply::Refused(code) => Some(code),
+        Answer::Refused(refusal) => Some(refusal.code()),
         _ => None,
     }
 }
 
-/// The socket of an allocation that was opened.
-fn opened_with(reply: Reply) -> Option<Opened>
-    ensures { result ≡ opened_with (answer_of reply) (opened_in reply) }
+/// The socket of a relayed address, if it is used from now on: its number is not below `next`.
+fn opened_one(next: u64, given: Option<Given>) -> Option<Opened>
+    ensures { result ≡ opened_one next given }
+{
+    match given {
+        Some(Given { number, address }) if next <= number => Some(Opened {
+            number,
+            relayed: address,
+        }),
+        _ => None,
+    }
+}
+
+/// The sockets that are used from now on, by an answer before which `next` was the next number.
+fn opened_in(next: u64, reply: Answer) -> Families<Option<Opened>>
+    ensures { result ≡ opened_in next (answer_of reply) }
 {
     match reply {
-        Reply::Allocated {
-            relayed,
-            opened: Some(number),
-            ..
-        } => Some(Opened { number, relayed }),
-        _ => None,
+        Answer::Allocated { given, .. } => Families {
+            ipv4: opened_one(next, given.ipv4),
+            ipv6: opened_one(next, given.ipv6),
+        },
+        _ => NONE_OPENED,
     }
 }
 
-/// The answer to a user's request.
+/// The answer to a user's request, before which `next` was the next number of a socket.
 pub(crate) fn answer(
     alloc: Global,
     access: &Access,
     client: Endpoint,
     request: &Message<'_>,
-    reply: Reply,
+    reply: Answer,
+    next: u64,
     accepted: &Accepted<'_>,
     buffer: &mut [u8],
 ) -> Response
@@ -236,11 +256,11 @@ pub(crate) fn answer(
     ensures { (key : UserKey) (algorithm : IntegrityAlgorithm) → Signs key algorithm accepted.now
         → IsResponse
         (answer_owed access.now client (message_bytes request.now) (answer_of reply) key algorithm)
-        (opened_with (answer_of reply) (opened_in reply)) buffer.old buffer.new result }
+        (opened_in next (answer_of reply)) buffer.old buffer.new result }
 {
     Response {
         written: write_reply(alloc, access, client, request, reply, accepted, buffer),
         code: code_of(reply),
-        opened: opened_with(reply),
+        opened: opened_in(next, reply),
     }
 }
