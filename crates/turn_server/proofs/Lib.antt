@@ -4,7 +4,6 @@ mod ReportingLemmas
 mod DatagramsLemmas
 mod RelayedLemmas
 mod StrangersLemmas
-mod ActingLemmas
 mod AnswersLemmas
 mod SpansLemmas
 mod AskingLemmas
