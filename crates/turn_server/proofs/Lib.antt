@@ -7,3 +7,5 @@ mod StrangersLemmas
 mod AnswersLemmas
 mod SpansLemmas
 mod AskingLemmas
+mod OpeningLemmas
+mod ActingLemmas

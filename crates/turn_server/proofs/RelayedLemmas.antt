@@ -1,5 +1,5 @@
 -- What goes to a peer is warranted by what came before.
-use Rattle.std.proofs.Common.{◌≡◌, ℕ, Bool, false, List, Some, ◌⊎◌, inl, inr, refl, ap, sym, subst, ◌∙◌}
+use Rattle.std.proofs.Common.{◌≡◌, ℕ, Bool, true, false, List, Some, ◌⊎◌, inl, inr, refl, ap, sym, subst, ◌∙◌}
 use Rattle.stun_grammar.specs.declared.integrity_algorithm.IntegrityAlgorithm.{IntegrityAlgorithm}
 use Rattle.stun_authentication.specs.Lookups.{UserKey}
 use Rattle.stun_endpoints.specs.declared.endpoints.Endpoint.{Endpoint}
