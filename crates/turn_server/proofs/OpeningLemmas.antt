@@ -18,15 +18,16 @@ use Rattle.turn_machine.specs.Times.{at, over_at, granted_for, left_of}
 use Rattle.turn_allocations.specs.declared.answer.Answer.{Answer}
 use Rattle.turn_allocations.specs.declared.answer.Answer.TheVariants.{Allocated, Refreshed, Done, Refused}
 use Rattle.turn_allocations.specs.declared.answer.Given.{Given}
+use Rattle.turn_allocations.specs.declared.answer.Refusal.{Refusal}
 use Rattle.turn_allocations.specs.declared.families.Families.{Families}
 use Rattle.turn_allocations.specs.declared.request.Want.{Want as Wish}
 use Rattle.turn_allocations.specs.declared.request.Want.TheVariants.{No, Unready, Ready}
-use Rattle.turn_allocations.specs.Answers.{answer_of, given_in, given_list}
+use Rattle.turn_allocations.specs.Answers.{answer_of, given_in, given_list, missing_in, missing_list}
 use Rattle.turn_allocations.specs.Requests.{has_numbers, number_in, numbers_in, wants_in, wants_of}
 use Rattle.turn_server.specs.declared.action.Opened.{Opened}
 use Rattle.turn_server.specs.Acting.{opened_as, opened_of, opened_one, opened_in}
 use Rattle.turn_server.specs.Actions.{number_of, numbers_of}
-use Rattle.turn_server.specs.Answers.{address_attribute, listed_one, relayed_of, relayed_attributes}
+use Rattle.turn_server.specs.Answers.{address_attribute, given_attributes, missing_attribute, relayed_attributes}
 use Rattle.turn_server.specs.Wanted.{Wanted, opening, other, request_with}
 
 -- ---- Numbers that are alike: the same, or both no greater than the next
@@ -181,12 +182,12 @@ request_alike setup rules state now tuple user (opening id lifetime wants) n m i
 
 -- ---- The relayed addresses of a client, by family
 
-module _ {Y : Type 0} (test : GivenAddress → Bool) (f : GivenAddress → Y) where
-  pub kept_first : (c : Bool) (x y : GivenAddress) → test y ≡ false → find test (cond c (y ∷ x ∷ []) (x ∷ y ∷ [])) ≡ find test (x ∷ [])
+module _ (test : GivenAddress → Bool) where
+  kept_first : (c : Bool) (x y : GivenAddress) → test y ≡ false → find test (cond c (y ∷ x ∷ []) (x ∷ y ∷ [])) ≡ find test (x ∷ [])
   kept_first true x y not_y = ap (λ (b : Bool). cond b (Some y) (find test (x ∷ []))) not_y
   kept_first false x y not_y = ap (λ (b : Bool). cond (test x) (Some x) (cond b (Some y) None)) not_y
 
-  pub kept_second : (c : Bool) (x y : GivenAddress) → test x ≡ false → find test (cond c (y ∷ x ∷ []) (x ∷ y ∷ [])) ≡ find test (y ∷ [])
+  kept_second : (c : Bool) (x y : GivenAddress) → test x ≡ false → find test (cond c (y ∷ x ∷ []) (x ∷ y ∷ [])) ≡ find test (y ∷ [])
   kept_second true x y not_x = ap (λ (b : Bool). cond (test y) (Some y) (cond b (Some x) None)) not_x
   kept_second false x y not_x = ap (λ (b : Bool). cond b (Some x) (find test (y ∷ []))) not_x
 
@@ -202,7 +203,7 @@ opened_first next None None = refl
 opened_first next None (Some h) = refl
 opened_first next (Some g) None = found_one (nat_le next g.number) g.number g.address 1
 opened_first next (Some g) (Some h) =
-    ap (option_map opened_as) (kept_first {GivenAddress} (is_new next 1) (λ x. x) (nat_lt g.number h.number) (given_in 1 g) (given_in 2 h) refl)
+    ap (option_map opened_as) (kept_first (is_new next 1) (nat_lt g.number h.number) (given_in 1 g) (given_in 2 h) refl)
     ∙ found_one (nat_le next g.number) g.number g.address 1
 
 opened_second : (next : ℕ) (ipv4 ipv6 : Option Given) → opened_of next 2 (given_list (record { ipv4 = ipv4; ipv6 = ipv6 })) ≡ opened_one next ipv6
@@ -210,15 +211,8 @@ opened_second next None None = refl
 opened_second next (Some g) None = refl
 opened_second next None (Some h) = found_one (nat_le next h.number) h.number h.address 2
 opened_second next (Some g) (Some h) =
-    ap (option_map opened_as) (kept_second {GivenAddress} (is_new next 2) (λ x. x) (nat_lt g.number h.number) (given_in 1 g) (given_in 2 h) refl)
+    ap (option_map opened_as) (kept_second (is_new next 2) (nat_lt g.number h.number) (given_in 1 g) (given_in 2 h) refl)
     ∙ found_one (nat_le next h.number) h.number h.address 2
-
-pub opened_by_family : (next : ℕ) (given : Families (Option Given)) (opened : Families (Option Opened)) → opened.ipv4 ≡ opened_one next given.ipv4 → opened.ipv6 ≡ opened_one next given.ipv6
-    → opened ≡ record { ipv4 = opened_of next 1 (given_list given); ipv6 = opened_of next 2 (given_list given) }
-opened_by_family next given opened first second =
-    let one = first ∙ sym (opened_first next given.ipv4 given.ipv6) in
-    let other_one = second ∙ sym (opened_second next given.ipv4 given.ipv6) in
-    λ i. record { ipv4 = one i; ipv6 = other_one i }
 
 -- ---- The numbers that a response shows are as good as those of the answer
 
@@ -250,22 +244,26 @@ module _ (id : ℕ) where
   abbrev spelled : GivenAddress → Attribute
   spelled g = address_attribute XOR_RELAYED_ADDRESS id g.address
 
-  abbrev spelled_one : Option Given → List Attribute
-  spelled_one given = map (λ (g : Given). address_attribute XOR_RELAYED_ADDRESS id g.address) (listed_one given)
-
-  ordered_first : (c : Bool) (g h : Given) → map spelled (filter (λ (x : GivenAddress). x.family == 1) (cond c (given_in 2 h ∷ given_in 1 g ∷ []) (given_in 1 g ∷ given_in 2 h ∷ []))) ≡ spelled_one (Some g)
+  ordered_first : (c : Bool) (g h : Given) → map spelled (filter (λ (x : GivenAddress). x.family == 1) (cond c (given_in 2 h ∷ given_in 1 g ∷ []) (given_in 1 g ∷ given_in 2 h ∷ []))) ≡ given_attributes id (Some g)
   ordered_first true g h = refl
   ordered_first false g h = refl
 
-  ordered_second : (c : Bool) (g h : Given) → map spelled (filter (λ (x : GivenAddress). x.family == 2) (cond c (given_in 2 h ∷ given_in 1 g ∷ []) (given_in 1 g ∷ given_in 2 h ∷ []))) ≡ spelled_one (Some h)
+  ordered_second : (c : Bool) (g h : Given) → map spelled (filter (λ (x : GivenAddress). x.family == 2) (cond c (given_in 2 h ∷ given_in 1 g ∷ []) (given_in 1 g ∷ given_in 2 h ∷ []))) ≡ given_attributes id (Some h)
   ordered_second true g h = refl
   ordered_second false g h = refl
 
-  pub relayed_by_family : (given : Families (Option Given)) → spelled_one given.ipv4 ++ spelled_one given.ipv6 ≡ relayed_attributes id (given_list given)
+  pub relayed_by_family : (given : Families (Option Given)) → given_attributes id given.ipv4 ++ given_attributes id given.ipv6 ≡ relayed_attributes id (given_list given)
   relayed_by_family given = by given.ipv4 given.ipv6
     where
-      by : (ipv4 ipv6 : Option Given) → spelled_one ipv4 ++ spelled_one ipv6 ≡ relayed_attributes id (given_list (record { ipv4 = ipv4; ipv6 = ipv6 }))
+      by : (ipv4 ipv6 : Option Given) → given_attributes id ipv4 ++ given_attributes id ipv6 ≡ relayed_attributes id (given_list (record { ipv4 = ipv4; ipv6 = ipv6 }))
       by None None = refl
       by (Some g) None = refl
       by None (Some h) = refl
       by (Some g) (Some h) = λ i. sym (ordered_first (nat_lt g.number h.number) g h) i ++ sym (ordered_second (nat_lt g.number h.number) g h) i
+
+pub missing_by_family : (missing : Families (Option Refusal)) → map missing_attribute (missing_in 1 missing.ipv4) ++ map missing_attribute (missing_in 2 missing.ipv6) ≡ map missing_attribute (missing_list missing)
+missing_by_family missing = by missing.ipv4 missing.ipv6
+  where
+    by : (ipv4 ipv6 : Option Refusal) → map missing_attribute (missing_in 1 ipv4) ++ map missing_attribute (missing_in 2 ipv6) ≡ map missing_attribute (missing_in 1 ipv4 ++ missing_in 2 ipv6)
+    by None ipv6 = refl
+    by (Some refusal) ipv6 = refl
