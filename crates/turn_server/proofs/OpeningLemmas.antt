@@ -38,7 +38,9 @@ IsAlike next n m = (n ≡ m) ⊎ ((n ≤ next) × (m ≤ next))
 number_alike : (next n m above : ℕ) → IsAlike next n m → next ≤ above → max above n ≡ max above m
 number_alike next n m above (inl same) more = ap (max above) same
 number_alike next n m above (inr both) more =
-    max-eq_left {above} {n} (omega (arith, both.0, more)) ∙ sym (max-eq_left {above} {m} (omega (arith, both.1, more)))
+    let first : n ≤ above = omega (arith, both.0, more) in
+    let second : m ≤ above = omega (arith, both.1, more) in
+    max-eq_left first ∙ sym (max-eq_left second)
 
 abbrev AreReady : ℕ → Option Offer → Option Offer → Type 0
 AreReady next None None = Unit {0}
