@@ -106,14 +106,14 @@ module _ (right : Right) (setup : Setup) (rules : Rules) (earlier : List Moment)
       let output = (step setup rules (kept setup earlier) now event).output in
       let goes = subst (IsRight setup (past setup earlier) clock rules event) (data_is number peer dont_fragment bytes output e) (right_after right setup rules earlier now event) in
       let by = sent_right setup (past setup earlier) clock tuple number peer bytes to held dont_fragment goes.0 goes.2 in
-      (by.mark, goes.1, inl (so.0, so.1 ∙ ap (λ (p : Endpoint). Some (p, held)) by.peer_is ∙ ap (λ (b : List ℕ). Some (peer, b)) by.bytes_are, by.warranted))
+      (by.mark, (goes.1, inl (so.0, so.1 ∙ ap (λ (p : Endpoint). Some (p, held)) by.peer_is ∙ ap (λ (b : List ℕ). Some (peer, b)) by.bytes_are, by.warranted)))
   relayed_for (sent_on channel held) so e =
       let clock = clock_at setup earlier now in
       let event = sends_on tuple channel held in
       let output = (step setup rules (kept setup earlier) now event).output in
       let goes = subst (IsRight setup (past setup earlier) clock rules event) (data_is number peer dont_fragment bytes output e) (right_after right setup rules earlier now event) in
       let by = sent_on_right setup (past setup earlier) clock tuple number peer bytes channel held dont_fragment goes.0 goes.2 in
-      (by.mark, goes.1, inr (so.1 ∙ ap (λ (b : List ℕ). Some b) by.bytes_are, subst (λ (n : ℕ). IsWarranted (past setup earlier) clock tuple number peer (AreBinding tuple n peer clock)) so.0 by.warranted))
+      (by.mark, (goes.1, inr (so.1 ∙ ap (λ (b : List ℕ). Some b) by.bytes_are, subst (λ (n : ℕ). IsWarranted (past setup earlier) clock tuple number peer (AreBinding tuple n peer clock)) so.0 by.warranted)))
   relayed_for (asked user wanted key algorithm) so e = no_data (kept setup earlier).next key algorithm number peer dont_fragment bytes _ e
 
   pub relayed : act site setup rules tuple numbers (kept setup earlier) now d ≡ sends_to number peer dont_fragment bytes

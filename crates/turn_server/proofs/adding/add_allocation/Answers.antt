@@ -1,4 +1,4 @@
-use Rattle.std.proofs.Common.{[], ◌∷◌, ◌++◌, map, List, subst}
+use Rattle.std.proofs.Common.{◌∷◌, ◌++◌, map, List, subst}
 use Rattle.stun_grammar.specs.Attributes.{Attribute}
 use Rattle.stun_grammar.specs.AttributeTypes.{XOR_MAPPED_ADDRESS}
 use Rattle.stun_authentication.specs.Writing.{Lengthens}
