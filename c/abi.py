@@ -63,11 +63,13 @@ TYPES = {
     "stream": "CStream",
     "channel_data": "CChannelMessage",
     "turn": "CTurn",
+    "turn_limits": "CTurnLimits",
     "turn_settings": "CTurnSettings",
     "prefix": "CPrefix",
     "five_tuple": "CFiveTuple",
     "turn_ready": "CTurnReady",
     "turn_datagram": "CTurnDatagram",
+    "turn_opened": "COpened",
     "turn_action": "CTurnAction",
     "turn_delivery": "CDelivery",
 }

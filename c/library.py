@@ -40,7 +40,7 @@ ZEROS = {
 }
 # What it returns. A call that counts what it wrote wrote nothing.
 REFUSED = {"bool": "false", "size_t": "SIZE_MAX", "stun_types_answer": "refused"}
-REFUSED_BY = {"stun_types_turn_poll": "0"}
+REFUSED_BY = {"stun_types_turn_ended": "0", "stun_types_turn_end_user": "0"}
 BEGINS = """\
 /* (written by c/library.py) */
 #include <stdbool.h>

@@ -7,7 +7,7 @@
  * - What a call writes, a slice or a struct, overlaps no other argument of it, nor a slice in a struct
  *   that is passed in. A call compares the addresses before all else: if it would write what overlaps
  *   another argument, it returns BAD_ARGUMENT, or false, or, if it counts, SIZE_MAX;
- *   stun_types_turn_poll, whose count never exceeds its room, returns 0.
+ *   stun_types_turn_ended and stun_types_turn_end_user return 0.
  * - No call keeps a pointer, prints, blocks or aborts. Only the calls whose comments say so
  *   allocate (by malloc), and at most twice the bytes of their arguments and 1,024 more at once;
  *   stun_types_turn_new allocates more. All may run in several threads at once. One key may be used
@@ -1226,8 +1226,9 @@ stun_types_answer stun_types_write_channel_data(uint16_t channel, const void *da
 
 /* ---- A TURN server (RFC 8656) ------------------------------------------------------------------ */
 
-/* A TURN server without sockets and without a clock, on the heap: its allocations, with their
-   permissions and channels, at most 16 of each. It begins as STUN_TYPES_TURN_INIT, is made by
+/* A TURN server without sockets and without a clock, on the heap: its allocations, each with one relayed
+   address or one of each family, and each relayed address with at most 16 permissions and 16 channels. It
+   begins as STUN_TYPES_TURN_INIT, is made by
    stun_types_turn_new, which frees what it held before, and ended by stun_types_turn_free. C neither
    reads nor writes nor copies its fields; whether a struct holds a server is seen as with a key. Each
    call has it alone: one server for each thread, or a lock. */
@@ -1249,20 +1250,43 @@ typedef struct {
     uint16_t length;
 } stun_types_prefix;
 
+/* The bounds of a server, and what it can do. All zeros: it refuses each Allocate request. */
+typedef struct {
+    uint32_t relays;            /* the most relayed addresses, below 2^24: an Allocate request beyond it is
+                                   refused with 508 */
+    uint32_t of_user;           /* the most relayed addresses of one user (486). An allocation with an
+                                   address of each family counts as two */
+    uint32_t reservations;      /* the most sockets that are reserved for the R bit of EVEN-PORT. The calls
+                                   of this header reserve none: such a request is refused with 508 */
+    uint32_t greatest_lifetime; /* seconds; below 600, as 0, it counts as 600 */
+    uint16_t ipv4, ipv6;        /* not 0: the server relays the family. A request for another one is refused
+                                   with 440, and if a socket of the family isn't ready with 508 */
+    uint16_t dont_fragment;     /* not 0: the program can set the DF bit of what it sends to peers */
+    uint16_t icmp;              /* not 0: ICMP packets are relayed. No call of this header takes one */
+    uint16_t channel_permits;   /* not 0: the permission that a ChannelBind request installs lasts as long
+                                   as the channel, 600 seconds. By RFC 8656 it lasts 300, but some clients
+                                   refresh only their channels */
+    uint16_t old_channels;      /* not 0: channels 0x5000 to 0x7FFF are allowed too (RFC 5766) */
+} stun_types_turn_limits;
+
+/* 4,096 relayed addresses of either family, at most 64 of one user, for at most an hour, and the rules of
+   RFC 8656, without DONT-FRAGMENT and ICMP. */
+#define STUN_TYPES_TURN_LIMITS { 4096, 64, 64, 3600, 1, 1, 0, 0, 0, 0 }
+
+/* STUN_TYPES_TURN_LIMITS, for languages that read no macros. */
+STUN_TYPES_NODISCARD
+stun_types_turn_limits stun_types_turn_limits_default(void);
+
 /* What a server is made by. All zeros make one that refuses each Allocate request. */
 typedef struct {
     uint64_t window;            /* for how many seconds a nonce is valid; 0: in its own second alone */
-    uint64_t seed[2];           /* random: it keys the hash of 5-tuples. With zeros clients can choose
-                                   5-tuples whose hashes collide */
+    uint64_t seed[2];           /* random: it keys the hashes of clients and users. With zeros clients can
+                                   choose addresses whose hashes collide */
     stun_types_policy policy;   /* which requests are taken, and which integrity attributes count */
-    uint32_t allocations;       /* at most; one that has ended counts until a poll reports it */
-    uint32_t of_user;           /* the most live allocations of one user */
-    uint32_t greatest_lifetime; /* seconds; below 600, as 0, it counts as 600 */
+    stun_types_turn_limits limits;
     uint32_t features;          /* as in stun_types_make_nonce; 0: none. With
                                    STUN_TYPES_FEATURE_PASSWORD_ALGORITHMS a 401 offers SHA-256 and
                                    then MD5 */
-    uint32_t channel_permits;   /* not 0: a channel permits its exact peer as long as it lasts */
-    uint32_t old_channels;      /* not 0: channels 0x5000 to 0x7FFF are allowed too (RFC 5766) */
     const void *realm;          /* the text of the realm of its users */
     size_t realm_length;        /* 0: the realm is empty */
     const void *software;       /* the text of the SOFTWARE of responses that are signed, but a 420. A
@@ -1282,10 +1306,10 @@ typedef struct {
     uint64_t reserved;
 } stun_types_turn_settings;
 
-/* Makes a server with no allocation. It takes all memory that its table ever needs: some 2,800 bytes
-   for each allocation. secret makes the nonces, as in stun_types_make_nonce. The server keeps copies of
+/* Makes a server with no allocation. It takes all memory that it ever keeps: some 2,700 bytes for each of
+   limits.relays. secret makes the nonces, as in stun_types_make_nonce. The server keeps copies of
    all that it is given.
-   The first of these: BAD_ARGUMENT: a number of the settings. NO_KEY: there is no secret. BAD_ARGUMENT:
+   The first of these: BAD_ARGUMENT: a number of the settings, also limits.relays from 2^24 on. NO_KEY: there is no secret. BAD_ARGUMENT:
    it has fewer than 16 bytes. INVALID_DATA, TOO_LARGE: the realm, and then the software, isn't UTF-8, or
    has more than 763 bytes. BAD_ARGUMENT: a family is neither 4 nor 6; a prefix is longer than an address
    of its family, or one of its other bits is 1. Allocates: OUT_OF_MEMORY. If the call fails, the
@@ -1310,23 +1334,22 @@ typedef struct {
     uint16_t stream; /* 0: UDP; 1: TCP or TLS, cut into messages by stun_types_stream_push */
 } stun_types_five_tuple;
 
-/* The sockets that are ready for Allocate requests, by the addresses that clients get: family 0, none.
-   One for any port, one whose port is even; the same socket may be both. If ipv4 is 0 the server has no
-   IPv4 to offer (440), otherwise a socket that isn't ready is 508; ipv6 in the same way. */
+/* The sockets that are ready for Allocate requests, by the addresses that clients get: family 0, none, and
+   a request for one is refused with 508. One for any port, one whose port is even; the same socket may be
+   both. No relayed address may have it already: the server doesn't check that. */
 typedef struct {
     stun_types_address any_ipv4, even_ipv4, any_ipv6, even_ipv6;
-    uint16_t ipv4, ipv6;
 } stun_types_turn_ready;
 
-/* A client's datagram. All zeros, but for its bytes and where it comes from: a server with no sockets to
-   offer takes it, and no keys were looked up. */
+/* A client's datagram. All zeros, but for its bytes and where it comes from: no socket is ready, and no
+   keys were looked up. */
 typedef struct {
     const uint8_t *bytes;
     size_t length;
     stun_types_five_tuple from;
     stun_types_turn_ready ready;
     uint16_t looked_up; /* not 0: the keys that are passed are those of its user */
-    uint64_t reserved;
+    uint32_t reserved;
 } stun_types_turn_datagram;
 
 typedef STUN_TYPES_ENUM(stun_types_turn_kind) {
@@ -1336,19 +1359,32 @@ typedef STUN_TYPES_ENUM(stun_types_turn_kind) {
     STUN_TYPES_TURN_NEEDS_KEY = 3 /* find the keys of the user, and call again with them */
 } stun_types_turn_kind;
 
+/* A socket that was ready and is a relayed address's from now on. */
 typedef struct {
-    uint64_t relay;          /* TO_PEER, or if took is 1: the number of a socket */
+    uint64_t relay;             /* the number that names it until it is ended. No other ever has it; its
+                                   low 24 bits are below limits.relays, and no two that are there share
+                                   them */
+    stun_types_address relayed; /* its address, as it was ready */
+    uint32_t took;              /* 1: keep the socket by its number, and have another one ready for the next
+                                   call; 0: none was taken */
+} stun_types_turn_opened;
+
+/* What is to be done, in this order: close the sockets that ended, keep those that were taken, and send. */
+typedef struct {
+    uint64_t relay;          /* TO_PEER: the number of the socket */
     size_t at, length;       /* in bytes */
-    stun_types_address peer; /* TO_PEER; if took is 1, the relayed address, that of the ready socket */
+    size_t ended;            /* how many relayed addresses the call ended: stun_types_turn_ended */
+    stun_types_turn_opened ipv4, ipv6; /* the sockets that the request took, of each family */
+    stun_types_address peer; /* TO_PEER */
     stun_types_turn_kind kind;
-    uint32_t took;           /* 1: the socket with the address peer is an allocation's from now on, by
-                                the number relay: have another one ready for the next call */
     uint32_t code;           /* RESPONSE: the error code, or 0 if it is a success response */
+    uint32_t dont_fragment;  /* TO_PEER: 1: send with the DF bit */
 } stun_types_turn_action;
 
-/* Takes a client's datagram: keeps what it changes, and says what is to be sent. now is a monotonic
+/* Takes a client's datagram: keeps what it changes, and says what is to be done. now is a monotonic
    clock of the caller's, in nanoseconds since any moment that stays the same; the nonces count its
-   whole seconds.
+   whole seconds. Each call that takes it ends what has expired first, whatever the datagram is. A clock
+   that steps back counts as stopped.
 
    When a datagram comes, looked_up is 0, and both keys may hold none. If the kind is
    STUN_TYPES_TURN_NEEDS_KEY, nothing has changed: it is a signed request, and its USERNAME or USERHASH
@@ -1358,9 +1394,9 @@ typedef struct {
 
    A response is written into room. 1,000 bytes have room for any, but for a 420 that lists more than
    400 types. TOO_SMALL, OUT_OF_MEMORY: it isn't written, and the kind is STUN_TYPES_TURN_NOTHING. The
-   request has taken effect, though: relay, peer and took say which socket it took, and if the client
+   request has taken effect, though: ended, ipv4 and ipv6 say what it ended and took, and if the client
    sends it again it is answered. INVALID_DATA: the same, since the key is made for the other integrity
-   algorithm. OUT_OF_MEMORY also if a key can't be copied: nothing has changed, and took is 0.
+   algorithm. OUT_OF_MEMORY also if a key can't be copied: nothing has changed, and the action is zeros.
    BAD_ARGUMENT, and nothing has changed: there is no server, a family is neither 4 nor 6, an address
    that is ready is of the other family, stream is neither 0 nor 1, or reserved is not 0.
    Allocates, but not for data that goes to a peer. */
@@ -1379,6 +1415,7 @@ typedef struct {
                              client; 0: the data is dropped */
     uint16_t head_length; /* 4 on a channel; otherwise 36, or 48 for a peer with an IPv6 address */
     uint16_t padding;     /* 0 to 3; on a channel over UDP 0 */
+    size_t ended;         /* how many relayed addresses the call ended: stun_types_turn_ended */
 } stun_types_turn_delivery;
 
 #define STUN_TYPES_TURN_HEAD 48
@@ -1386,8 +1423,8 @@ typedef struct {
 /* Takes a datagram of data_length bytes, which came from peer to the socket relay. The data is neither
    read nor moved: what comes before it is written at the end of head, which has size bytes, at least
    STUN_TYPES_TURN_HEAD. So receive at buffer + 48, and pass buffer and 48. id: random; the transaction
-   ID of a Data indication. The data is dropped if the socket is no live allocation's, if there is no
-   permission for the peer, or if the message is longer than the transport to the client takes: 65,507
+   ID of a Data indication. The data is dropped if the socket is no live relayed address's, if there is no
+   permission for the peer, if the peer is denied, or if the message is longer than the transport to the client takes: 65,507
    bytes over UDP and IPv4, 65,527 over UDP and IPv6, and 65,552 on a stream. It allocates nothing.
    BAD_ARGUMENT: there is no server, or a family is neither 4 nor 6. TOO_SMALL: head is shorter. */
 STUN_TYPES_NODISCARD STUN_TYPES_NONNULL((1, 3, 6, 9))
@@ -1396,11 +1433,39 @@ stun_types_answer stun_types_turn_peer(stun_types_turn *server, uint64_t now,
                                        size_t data_length, const stun_types_id *id, uint8_t *head,
                                        size_t size, stun_types_turn_delivery *delivery);
 
-/* Ends allocations whose time is over, at most room of them, and writes the numbers of their sockets,
-   to be closed. Returns how many, never more than room; if it is less than room, none is left. Without a
-   server, and if arguments overlap, it is 0. Call it once a second. */
+/* Ends what has expired, and returns how many relayed addresses it ended: stun_types_turn_ended. Without a
+   server it is 0. Each call that takes the time does this, so that a server without datagrams needs it
+   alone: call it once a second, or at stun_types_turn_next_due. */
 STUN_TYPES_NODISCARD STUN_TYPES_NONNULL((1))
-size_t stun_types_turn_poll(stun_types_turn *server, uint64_t now, uint64_t *ended, size_t room);
+size_t stun_types_turn_poll(stun_types_turn *server, uint64_t now);
+
+/* The same, and ends the relayed address with this number, for example if the connection of its client is
+   closed. If none has it, only what has expired ends. */
+STUN_TYPES_NODISCARD STUN_TYPES_NONNULL((1))
+size_t stun_types_turn_end(stun_types_turn *server, uint64_t now, uint64_t relay);
+
+/* The same, and ends all relayed addresses of the user with this name in the realm of the server, whether
+   they named themselves by USERNAME or by USERHASH: for example of a user who is revoked. 0: also if the
+   arguments overlap. */
+STUN_TYPES_NODISCARD STUN_TYPES_NONNULL((1))
+size_t stun_types_turn_end_user(stun_types_turn *server, uint64_t now, const void *name, size_t length);
+
+/* The numbers of the sockets that the last call with the server and a time ended, to be closed: from one
+   of them on, at most room of them, in no particular order. first: 0, then how many were read. Returns how
+   many it wrote; 0: there are no more, or there is no server, or the arguments overlap. A call that returned
+   BAD_ARGUMENT, or that changed nothing, left them as they were: look at the count that it returned. */
+STUN_TYPES_NODISCARD STUN_TYPES_NONNULL((1))
+size_t stun_types_turn_ended(stun_types_turn *server, size_t first, uint64_t *numbers, size_t room);
+
+/* When the next relayed address expires, by the clock of the caller: before, stun_types_turn_poll ends
+   nothing. UINT64_MAX: there is none, or no server. */
+STUN_TYPES_NODISCARD STUN_TYPES_NONNULL((1))
+uint64_t stun_types_turn_next_due(stun_types_turn *server);
+
+/* How many relayed addresses there are, with those that have expired since the last call. 0 without a
+   server. */
+STUN_TYPES_NODISCARD STUN_TYPES_NONNULL((1))
+size_t stun_types_turn_count(stun_types_turn *server);
 
 /* ---- Layout ----------------------------------------------------------------------------------- */
 
@@ -1556,58 +1621,71 @@ STUN_TYPES_LAYOUT(turn_held, offsetof(stun_types_turn, held) == 8);
 STUN_TYPES_LAYOUT(prefix_size, sizeof(stun_types_prefix) == 22);
 STUN_TYPES_LAYOUT(prefix_address, offsetof(stun_types_prefix, address) == 0);
 STUN_TYPES_LAYOUT(prefix_length, offsetof(stun_types_prefix, length) == 20);
-STUN_TYPES_LAYOUT(turn_settings_size, sizeof(stun_types_turn_settings) == 152);
+STUN_TYPES_LAYOUT(turn_limits_size, sizeof(stun_types_turn_limits) == 28);
+STUN_TYPES_LAYOUT(turn_limits_relays, offsetof(stun_types_turn_limits, relays) == 0);
+STUN_TYPES_LAYOUT(turn_limits_of_user, offsetof(stun_types_turn_limits, of_user) == 4);
+STUN_TYPES_LAYOUT(turn_limits_reservations, offsetof(stun_types_turn_limits, reservations) == 8);
+STUN_TYPES_LAYOUT(turn_limits_greatest_lifetime, offsetof(stun_types_turn_limits, greatest_lifetime) == 12);
+STUN_TYPES_LAYOUT(turn_limits_ipv4, offsetof(stun_types_turn_limits, ipv4) == 16);
+STUN_TYPES_LAYOUT(turn_limits_ipv6, offsetof(stun_types_turn_limits, ipv6) == 18);
+STUN_TYPES_LAYOUT(turn_limits_dont_fragment, offsetof(stun_types_turn_limits, dont_fragment) == 20);
+STUN_TYPES_LAYOUT(turn_limits_icmp, offsetof(stun_types_turn_limits, icmp) == 22);
+STUN_TYPES_LAYOUT(turn_limits_channel_permits, offsetof(stun_types_turn_limits, channel_permits) == 24);
+STUN_TYPES_LAYOUT(turn_limits_old_channels, offsetof(stun_types_turn_limits, old_channels) == 26);
+STUN_TYPES_LAYOUT(turn_settings_size, sizeof(stun_types_turn_settings) == 160);
 STUN_TYPES_LAYOUT(turn_settings_window, offsetof(stun_types_turn_settings, window) == 0);
 STUN_TYPES_LAYOUT(turn_settings_seed, offsetof(stun_types_turn_settings, seed) == 8);
 STUN_TYPES_LAYOUT(turn_settings_policy, offsetof(stun_types_turn_settings, policy) == 24);
-STUN_TYPES_LAYOUT(turn_settings_allocations, offsetof(stun_types_turn_settings, allocations) == 40);
-STUN_TYPES_LAYOUT(turn_settings_of_user, offsetof(stun_types_turn_settings, of_user) == 44);
-STUN_TYPES_LAYOUT(turn_settings_greatest_lifetime, offsetof(stun_types_turn_settings, greatest_lifetime) == 48);
-STUN_TYPES_LAYOUT(turn_settings_features, offsetof(stun_types_turn_settings, features) == 52);
-STUN_TYPES_LAYOUT(turn_settings_channel_permits, offsetof(stun_types_turn_settings, channel_permits) == 56);
-STUN_TYPES_LAYOUT(turn_settings_old_channels, offsetof(stun_types_turn_settings, old_channels) == 60);
-STUN_TYPES_LAYOUT(turn_settings_realm, offsetof(stun_types_turn_settings, realm) == 64);
-STUN_TYPES_LAYOUT(turn_settings_realm_length, offsetof(stun_types_turn_settings, realm_length) == 72);
-STUN_TYPES_LAYOUT(turn_settings_software, offsetof(stun_types_turn_settings, software) == 80);
-STUN_TYPES_LAYOUT(turn_settings_software_length, offsetof(stun_types_turn_settings, software_length) == 88);
-STUN_TYPES_LAYOUT(turn_settings_denied, offsetof(stun_types_turn_settings, denied) == 96);
-STUN_TYPES_LAYOUT(turn_settings_denied_count, offsetof(stun_types_turn_settings, denied_count) == 104);
-STUN_TYPES_LAYOUT(turn_settings_allowed, offsetof(stun_types_turn_settings, allowed) == 112);
-STUN_TYPES_LAYOUT(turn_settings_allowed_count, offsetof(stun_types_turn_settings, allowed_count) == 120);
-STUN_TYPES_LAYOUT(turn_settings_listening, offsetof(stun_types_turn_settings, listening) == 128);
-STUN_TYPES_LAYOUT(turn_settings_listening_count, offsetof(stun_types_turn_settings, listening_count) == 136);
-STUN_TYPES_LAYOUT(turn_settings_reserved, offsetof(stun_types_turn_settings, reserved) == 144);
+STUN_TYPES_LAYOUT(turn_settings_limits, offsetof(stun_types_turn_settings, limits) == 40);
+STUN_TYPES_LAYOUT(turn_settings_features, offsetof(stun_types_turn_settings, features) == 68);
+STUN_TYPES_LAYOUT(turn_settings_realm, offsetof(stun_types_turn_settings, realm) == 72);
+STUN_TYPES_LAYOUT(turn_settings_realm_length, offsetof(stun_types_turn_settings, realm_length) == 80);
+STUN_TYPES_LAYOUT(turn_settings_software, offsetof(stun_types_turn_settings, software) == 88);
+STUN_TYPES_LAYOUT(turn_settings_software_length, offsetof(stun_types_turn_settings, software_length) == 96);
+STUN_TYPES_LAYOUT(turn_settings_denied, offsetof(stun_types_turn_settings, denied) == 104);
+STUN_TYPES_LAYOUT(turn_settings_denied_count, offsetof(stun_types_turn_settings, denied_count) == 112);
+STUN_TYPES_LAYOUT(turn_settings_allowed, offsetof(stun_types_turn_settings, allowed) == 120);
+STUN_TYPES_LAYOUT(turn_settings_allowed_count, offsetof(stun_types_turn_settings, allowed_count) == 128);
+STUN_TYPES_LAYOUT(turn_settings_listening, offsetof(stun_types_turn_settings, listening) == 136);
+STUN_TYPES_LAYOUT(turn_settings_listening_count, offsetof(stun_types_turn_settings, listening_count) == 144);
+STUN_TYPES_LAYOUT(turn_settings_reserved, offsetof(stun_types_turn_settings, reserved) == 152);
 STUN_TYPES_LAYOUT(five_tuple_size, sizeof(stun_types_five_tuple) == 42);
 STUN_TYPES_LAYOUT(five_tuple_client, offsetof(stun_types_five_tuple, client) == 0);
 STUN_TYPES_LAYOUT(five_tuple_server, offsetof(stun_types_five_tuple, server) == 20);
 STUN_TYPES_LAYOUT(five_tuple_stream, offsetof(stun_types_five_tuple, stream) == 40);
-STUN_TYPES_LAYOUT(turn_ready_size, sizeof(stun_types_turn_ready) == 84);
+STUN_TYPES_LAYOUT(turn_ready_size, sizeof(stun_types_turn_ready) == 80);
 STUN_TYPES_LAYOUT(turn_ready_any_ipv4, offsetof(stun_types_turn_ready, any_ipv4) == 0);
 STUN_TYPES_LAYOUT(turn_ready_even_ipv4, offsetof(stun_types_turn_ready, even_ipv4) == 20);
 STUN_TYPES_LAYOUT(turn_ready_any_ipv6, offsetof(stun_types_turn_ready, any_ipv6) == 40);
 STUN_TYPES_LAYOUT(turn_ready_even_ipv6, offsetof(stun_types_turn_ready, even_ipv6) == 60);
-STUN_TYPES_LAYOUT(turn_ready_ipv4, offsetof(stun_types_turn_ready, ipv4) == 80);
-STUN_TYPES_LAYOUT(turn_ready_ipv6, offsetof(stun_types_turn_ready, ipv6) == 82);
-STUN_TYPES_LAYOUT(turn_datagram_size, sizeof(stun_types_turn_datagram) == 152);
+STUN_TYPES_LAYOUT(turn_datagram_size, sizeof(stun_types_turn_datagram) == 144);
 STUN_TYPES_LAYOUT(turn_datagram_bytes, offsetof(stun_types_turn_datagram, bytes) == 0);
 STUN_TYPES_LAYOUT(turn_datagram_length, offsetof(stun_types_turn_datagram, length) == 8);
 STUN_TYPES_LAYOUT(turn_datagram_from, offsetof(stun_types_turn_datagram, from) == 16);
 STUN_TYPES_LAYOUT(turn_datagram_ready, offsetof(stun_types_turn_datagram, ready) == 58);
-STUN_TYPES_LAYOUT(turn_datagram_looked_up, offsetof(stun_types_turn_datagram, looked_up) == 142);
-STUN_TYPES_LAYOUT(turn_datagram_reserved, offsetof(stun_types_turn_datagram, reserved) == 144);
-STUN_TYPES_LAYOUT(turn_action_size, sizeof(stun_types_turn_action) == 56);
+STUN_TYPES_LAYOUT(turn_datagram_looked_up, offsetof(stun_types_turn_datagram, looked_up) == 138);
+STUN_TYPES_LAYOUT(turn_datagram_reserved, offsetof(stun_types_turn_datagram, reserved) == 140);
+STUN_TYPES_LAYOUT(turn_opened_size, sizeof(stun_types_turn_opened) == 32);
+STUN_TYPES_LAYOUT(turn_opened_relay, offsetof(stun_types_turn_opened, relay) == 0);
+STUN_TYPES_LAYOUT(turn_opened_relayed, offsetof(stun_types_turn_opened, relayed) == 8);
+STUN_TYPES_LAYOUT(turn_opened_took, offsetof(stun_types_turn_opened, took) == 28);
+STUN_TYPES_LAYOUT(turn_action_size, sizeof(stun_types_turn_action) == 128);
 STUN_TYPES_LAYOUT(turn_action_relay, offsetof(stun_types_turn_action, relay) == 0);
 STUN_TYPES_LAYOUT(turn_action_at, offsetof(stun_types_turn_action, at) == 8);
 STUN_TYPES_LAYOUT(turn_action_length, offsetof(stun_types_turn_action, length) == 16);
-STUN_TYPES_LAYOUT(turn_action_peer, offsetof(stun_types_turn_action, peer) == 24);
-STUN_TYPES_LAYOUT(turn_action_kind, offsetof(stun_types_turn_action, kind) == 44);
-STUN_TYPES_LAYOUT(turn_action_took, offsetof(stun_types_turn_action, took) == 48);
-STUN_TYPES_LAYOUT(turn_action_code, offsetof(stun_types_turn_action, code) == 52);
-STUN_TYPES_LAYOUT(turn_delivery_size, sizeof(stun_types_turn_delivery) == 48);
+STUN_TYPES_LAYOUT(turn_action_ended, offsetof(stun_types_turn_action, ended) == 24);
+STUN_TYPES_LAYOUT(turn_action_ipv4, offsetof(stun_types_turn_action, ipv4) == 32);
+STUN_TYPES_LAYOUT(turn_action_ipv6, offsetof(stun_types_turn_action, ipv6) == 64);
+STUN_TYPES_LAYOUT(turn_action_peer, offsetof(stun_types_turn_action, peer) == 96);
+STUN_TYPES_LAYOUT(turn_action_kind, offsetof(stun_types_turn_action, kind) == 116);
+STUN_TYPES_LAYOUT(turn_action_code, offsetof(stun_types_turn_action, code) == 120);
+STUN_TYPES_LAYOUT(turn_action_dont_fragment, offsetof(stun_types_turn_action, dont_fragment) == 124);
+STUN_TYPES_LAYOUT(turn_delivery_size, sizeof(stun_types_turn_delivery) == 56);
 STUN_TYPES_LAYOUT(turn_delivery_to, offsetof(stun_types_turn_delivery, to) == 0);
 STUN_TYPES_LAYOUT(turn_delivery_sends, offsetof(stun_types_turn_delivery, sends) == 42);
 STUN_TYPES_LAYOUT(turn_delivery_head_length, offsetof(stun_types_turn_delivery, head_length) == 44);
 STUN_TYPES_LAYOUT(turn_delivery_padding, offsetof(stun_types_turn_delivery, padding) == 46);
+STUN_TYPES_LAYOUT(turn_delivery_ended, offsetof(stun_types_turn_delivery, ended) == 48);
 /* (until here) */
 #undef STUN_TYPES_LAYOUT
 

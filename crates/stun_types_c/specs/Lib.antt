@@ -39,3 +39,4 @@ pub mod TurnAddresses
 pub mod TurnMaking
 pub mod TurnClients
 pub mod TurnPeers
+pub mod TurnEnding

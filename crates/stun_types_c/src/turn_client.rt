@@ -1,11 +1,11 @@
 //! What a TURN server does for a client's datagram.
 
-ghost use Rattle.std.specs.Prelude.{◌≡◌, ◌&&◌, not, false, Some, IfOk, IsOk, OnErr};
+ghost use Rattle.std.specs.Prelude.{◌≡◌, ◌&&◌, not, false, length, Some, IfOk, IsOk, OnErr};
 ghost use Rattle.turn_server.specs.Actions.{Acts};
 ghost use Rattle.stun_types_c.specs.KeyHandles.{shared_key};
-ghost use Rattle.stun_types_c.specs.TurnClients.{of_kind, nothing, IsOpened, IsSent, IsInC, IsSameServer, ActsOn, asks_for_key, Takes, keys_in_c, TakesDatagram};
+ghost use Rattle.stun_types_c.specs.TurnClients.{none_opened, of_kind, nothing, IsOpened, IsSent, IsInC, IsSameServer, ActsOn, asks_for_key, Takes, keys_in_c, TakesDatagram};
 ghost use Rattle.stun_types_c.specs.TurnHandles.{held_turn};
-ghost use Rattle.stun_types_c.specs.TurnServers.{setup_in};
+ghost use Rattle.stun_types_c.specs.TurnServers.{setup_in, rules_in};
 ghost use Rattle.stun_types_c.specs.Users.{keys_of};
 
 use crate::address::Address;
@@ -21,24 +21,42 @@ use std::alloc::{AllocError, Global};
 use stun_endpoints::{Endpoint, FiveTuple};
 use turn_server::{Action, Opened, Response, Site, Sockets};
 
+/// A socket that was ready and is a relayed address's from now on, or none.
+#[repr(C)]
+#[derive(Clone, Copy, Drop)]
+pub struct COpened {
+    /// The number of the socket.
+    pub relay: u64,
+    /// The relayed address, that of the ready socket.
+    pub relayed: Address,
+    /// 1: there is one.
+    pub took: u32,
+}
+
 /// What C does for a client's datagram.
 #[repr(C)]
 #[derive(Clone, Copy, Drop)]
 pub struct CTurnAction {
-    /// The number of a socket.
+    /// The number of the socket that data goes from.
     pub relay: u64,
     /// The offset of the data in the datagram.
     pub at: usize,
     /// How many bytes are sent.
     pub length: usize,
-    /// The peer, or the relayed address of a new allocation.
+    /// How many relayed addresses the call ended.
+    pub ended: usize,
+    /// The socket that it opened a relayed IPv4 address with.
+    pub ipv4: COpened,
+    /// That of IPv6.
+    pub ipv6: COpened,
+    /// The peer.
     pub peer: Address,
     /// 0: nothing; 1: a response; 2: data to a peer; 3: the user's keys are needed.
     pub kind: u32,
-    /// 1: a socket is an allocation's from now on.
-    pub took: u32,
     /// The error code of the response, or 0.
     pub code: u32,
+    /// 1: data goes with the DF bit.
+    pub dont_fragment: u32,
 }
 
 /// A client's datagram, as C passes it.
@@ -54,81 +72,98 @@ pub struct CTurnDatagram<'a> {
     /// Not 0: the keys of its user were looked up.
     pub looked_up: u16,
     /// 0.
-    pub reserved: u64,
+    pub reserved: u32,
 }
 
+/// No socket was taken.
+const NONE_OPENED: COpened = COpened {
+    relay: 0,
+    relayed: NOWHERE,
+    took: 0,
+};
+
 /// What C does if nothing else is due: nothing, or look for a key.
-fn of_kind(kind: u32) -> CTurnAction
-    ensures { result ≡ of_kind kind }
+fn of_kind(kind: u32, ended: usize) -> CTurnAction
+    ensures { result ≡ of_kind kind ended }
 {
     CTurnAction {
         relay: 0,
         at: 0,
         length: 0,
+        ended,
+        ipv4: NONE_OPENED,
+        ipv6: NONE_OPENED,
         peer: NOWHERE,
         kind,
-        took: 0,
         code: 0,
+        dont_fragment: 0,
     }
 }
 
-/// What C does for an action that opened an allocation, or none.
-fn done_in_c(opened: Option<Opened>) -> CTurnAction
+/// The socket that was taken, in C's form.
+fn opened_in_c(opened: Option<Opened>) -> COpened
     ensures { IsOpened opened result }
 {
     match opened {
-        Some(Opened { number, relayed }) => CTurnAction {
+        Some(Opened { number, relayed }) => COpened {
             relay: number,
-            at: 0,
-            length: 0,
-            peer: address_of(relayed),
-            kind: 0,
+            relayed: address_of(relayed),
             took: 1,
-            code: 0,
         },
-        None => of_kind(0),
+        None => NONE_OPENED,
     }
 }
 
 /// What C does for a response.
-fn responding(response: &Response) -> (CResult, CTurnAction)
-    ensures { IsSent response.now result.0 result.1 }
+fn responding(response: &Response, ended: usize) -> (CResult, CTurnAction)
+    ensures { IsSent response.now ended result.0 result.1 }
 {
-    let done = done_in_c(response.opened);
-    match response.written {
-        Ok(length) => (
-            plain(codes::OK),
-            CTurnAction {
-                relay: done.relay,
-                at: done.at,
-                length,
-                peer: done.peer,
-                kind: 1,
-                took: done.took,
-                code: u32::from(response.code.unwrap_or(0)),
-            },
-        ),
-        Err(error) => (write_result(error), done),
-    }
+    let (result, kind, length, code) = match response.written {
+        Ok(length) => (plain(codes::OK), 1, length, response.code.unwrap_or(0)),
+        Err(error) => (write_result(error), 0, 0, 0),
+    };
+    (
+        result,
+        CTurnAction {
+            relay: 0,
+            at: 0,
+            length,
+            ended,
+            ipv4: opened_in_c(response.opened.ipv4),
+            ipv6: opened_in_c(response.opened.ipv6),
+            peer: NOWHERE,
+            kind,
+            code: u32::from(code),
+            dont_fragment: 0,
+        },
+    )
 }
 
-/// What C does for an action.
-fn in_c(action: &Action) -> (CResult, CTurnAction)
-    ensures { IsInC action.now result.0 result.1 }
+/// What C does for an action of a call that ended some relayed addresses.
+fn in_c(action: &Action, ended: usize) -> (CResult, CTurnAction)
+    ensures { IsInC action.now ended result.0 result.1 }
 {
     match action {
-        Action::Dropped => (plain(codes::OK), of_kind(0)),
-        Action::Response(response) => responding(response),
-        Action::ToPeer { relay, peer, data } => (
+        Action::Dropped => (plain(codes::OK), of_kind(0, ended)),
+        Action::Response(response) => responding(response, ended),
+        Action::ToPeer {
+            number,
+            peer,
+            dont_fragment,
+            data,
+        } => (
             plain(codes::OK),
             CTurnAction {
-                relay: *relay,
+                relay: *number,
                 at: data.at,
                 length: data.length,
+                ended,
+                ipv4: NONE_OPENED,
+                ipv6: NONE_OPENED,
                 peer: address_of(*peer),
                 kind: 2,
-                took: 0,
                 code: 0,
+                dont_fragment: u32::from(*dont_fragment),
             },
         ),
     }
@@ -146,9 +181,7 @@ fn take_datagram(
     room: &mut [u8],
 ) -> Result<Action, AllocError>
     ensures acts { IfOk result (Acts core.old.access sockets (keys_of keys.now) (setup_in core.old)
-        tuple.now now datagram.now
-        (record { state = core.old.server.state; slice = room.old })
-        (record { state = core.new.server.state; slice = room.new })) }
+        (rules_in core.old) tuple.now now datagram.now core.old.server core.new.server room.old room.new) }
     ensures same { IsSameServer core.old core.new }
     ensures memory { asks_for_key core.old now tuple.now.client datagram.now ≡ false → IsOk result }
     ensures err { OnErr result ((core.new ≡ core.old) × (room.new ≡ room.old)) }
@@ -180,7 +213,7 @@ fn act(
         Ok(action) => action,
         Err(AllocError) => return plain(codes::OUT_OF_MEMORY),
     };
-    let (result, done) = in_c(&action);
+    let (result, done) = in_c(&action, core.server.ended().len());
     *out = done;
     result
 }
@@ -211,7 +244,7 @@ fn take_known(
         (record { core = Some core.new; slice = room.new; action = out.new }) }
 {
     if !looked_up && asks_for_key(core, now, tuple.client, datagram) {
-        *out = of_kind(3);
+        *out = of_kind(3, 0);
         return plain(codes::OK);
     }
     act(alloc, core, now, tuple, datagram, sockets, keys, room, out)
@@ -244,7 +277,7 @@ pub extern "C" fn stun_types_turn_client(
         (record { core = held_turn server.old; slice = room.old; action = nothing })
         (record { core = held_turn server.new; slice = room.new; action = action.new }) }
 {
-    *action = of_kind(0);
+    *action = of_kind(0, 0);
     if datagram.reserved != 0 {
         return plain(codes::BAD_ARGUMENT);
     }

@@ -1,19 +1,19 @@
 //! Making a TURN server, and ending it.
 
-ghost use Rattle.std.specs.Prelude.{◌≡◌, ◌≤◌, ◌⊎◌, ◌==◌, true, false, length, drop, map, is_some, Some, None, All, IfOk, IsSomeAnd, MatchResult, MatchOption, box_value};
+ghost use Rattle.std.specs.Prelude.{◌≡◌, ◌<◌, ◌≤◌, ◌^◌, ◌⊎◌, ◌==◌, true, false, length, drop, map, is_some, Some, None, [], All, IfOk, IsSomeAnd, MatchResult, MatchOption, box_value};
 ghost use Rattle.std.specs.List.{list_all};
 ghost use Rattle.std.specs.Option.{option_map, option_or};
 ghost use Rattle.stun_attributes.specs.Texts.{text_bytes};
 ghost use Rattle.stun_keys.specs.Keys.{key_bytes};
 ghost use Rattle.stun_authentication.specs.Nonces.{minting, minting_of};
-ghost use Rattle.turn_table.specs.Runs.{begun};
+ghost use Rattle.turn_machine.specs.Runs.{initial_state};
 ghost use Rattle.stun_types_c.specs.Addresses.{socket_named};
 ghost use Rattle.stun_types_c.specs.CResults.{plain};
 ghost use Rattle.stun_types_c.specs.Codes.{OUT_OF_MEMORY, BAD_ARGUMENT};
 ghost use Rattle.stun_types_c.specs.KeyHandles.{shared_key};
 ghost use Rattle.stun_types_c.specs.Refusals.{text_answer};
 ghost use Rattle.stun_types_c.specs.TurnHandles.{held_turn};
-ghost use Rattle.stun_types_c.specs.TurnMaking.{settings_named, limits_named, is_whole, prefix_named, all_named, key_answer, access_answer, rules_answer, making_answer, software_named, IsAccess, AreRules, IsMade, Makes};
+ghost use Rattle.stun_types_c.specs.TurnMaking.{settings_named, limits_named, default_limits, is_whole, prefix_named, all_named, key_answer, access_answer, rules_answer, making_answer, software_named, IsAccess, AreRules, IsMade, Makes};
 ghost use Rattle.stun_types_c.specs.Versions.{no_key};
 
 use crate::address::{Address, socket_of};
@@ -32,9 +32,35 @@ use std::alloc::{AllocError, Global};
 use std::net::SocketAddr;
 use stun_authentication::{NonceMaker, Policy, SecurityFeatures};
 use stun_types::attribute::Software;
+use turn_allocations::{Families, Limits};
 use turn_peers::Prefix;
 use turn_server::{Access, TurnServer};
-use turn_table::Limits;
+
+/// The bounds of a TURN server, and what it can do, as C sets them.
+#[repr(C)]
+#[derive(Clone, Copy, Drop)]
+pub struct CTurnLimits {
+    /// The most relayed addresses.
+    pub relays: u32,
+    /// The most of one user.
+    pub of_user: u32,
+    /// The most sockets that are reserved.
+    pub reservations: u32,
+    /// The greatest lifetime in seconds.
+    pub greatest_lifetime: u32,
+    /// Not 0: it relays IPv4.
+    pub ipv4: u16,
+    /// Not 0: it relays IPv6.
+    pub ipv6: u16,
+    /// Not 0: the program can set the DF bit.
+    pub dont_fragment: u16,
+    /// Not 0: ICMP packets are relayed.
+    pub icmp: u16,
+    /// Not 0: the permission of a ChannelBind lasts as long as the channel.
+    pub channel_permits: u16,
+    /// Not 0: channels of RFC 5766 are allowed too.
+    pub old_channels: u16,
+}
 
 /// What a TURN server is made by, as C sets it.
 #[repr(C)]
@@ -42,22 +68,14 @@ use turn_table::Limits;
 pub struct CTurnSettings<'a> {
     /// For how many seconds a nonce is valid.
     pub window: u64,
-    /// What keys the hash of 5-tuples.
+    /// What keys the hashes of clients and users.
     pub seed: [u64; 2],
     /// Which requests are taken.
     pub policy: CPolicy,
-    /// How many allocations there are at most.
-    pub allocations: u32,
-    /// The most live allocations of one user.
-    pub of_user: u32,
-    /// The maximum lifetime in seconds.
-    pub greatest_lifetime: u32,
+    /// Its bounds, and what it can do.
+    pub limits: CTurnLimits,
     /// The number of the features that a nonce promises.
     pub features: u32,
-    /// Not 0: a channel permits its peer.
-    pub channel_permits: u32,
-    /// Not 0: channels of RFC 5766 are allowed too.
-    pub old_channels: u32,
     /// The text of the realm of its users.
     pub realm: &'a [u8],
     /// The text of the SOFTWARE of responses, or no bytes.
@@ -80,6 +98,26 @@ pub struct CPrefix {
     pub address: Address,
     /// How many bits the prefix has.
     pub length: u16,
+}
+
+/// The limits that are recommended: those of `Limits::default`.
+#[unsafe(no_mangle)]
+pub extern "C" fn stun_types_turn_limits_default() -> CTurnLimits
+    ensures { result ≡ default_limits }
+{
+    let limits = Limits::default();
+    CTurnLimits {
+        relays: limits.relays,
+        of_user: limits.of_user,
+        reservations: limits.reservations,
+        greatest_lifetime: limits.greatest_lifetime,
+        ipv4: u16::from(limits.families.ipv4),
+        ipv6: u16::from(limits.families.ipv6),
+        dont_fragment: u16::from(limits.dont_fragment),
+        icmp: u16::from(limits.icmp),
+        channel_permits: u16::from(limits.channel_permits),
+        old_channels: u16::from(limits.old_channels),
+    }
 }
 
 /// A handle that holds no server, as C declares it: the words of `CTurn`.
@@ -230,11 +268,14 @@ fn maker_with(
     }
 }
 
-/// The policy and the features of the settings.
+/// How many relayed addresses a server has at most, and one more.
+const MOST_RELAYS: u32 = 1 << 24;
+
+/// The policy and the features of the settings, if their numbers are in range.
 fn checked(settings: &CTurnSettings<'_>) -> Option<(Policy, SecurityFeatures)>
     ensures { result ≡ settings_named settings.now }
 {
-    if settings.reserved != 0 {
+    if settings.reserved != 0 || settings.limits.relays >= MOST_RELAYS {
         return None;
     }
     let policy = policy_of(&settings.policy)?;
@@ -268,16 +309,23 @@ fn access_of(
     })
 }
 
-/// The bounds of the settings.
-fn limits_of(settings: &CTurnSettings<'_>) -> Limits
-    ensures { result ≡ limits_named settings.now }
+/// The limits that C passes.
+fn limits_of(named: &CTurnLimits) -> Limits
+    ensures { result ≡ limits_named named.now }
 {
     Limits {
-        allocations: settings.allocations,
-        of_user: settings.of_user,
-        greatest_lifetime: settings.greatest_lifetime,
-        channel_permits: settings.channel_permits != 0,
-        old_channels: settings.old_channels != 0,
+        relays: named.relays,
+        of_user: named.of_user,
+        reservations: named.reservations,
+        greatest_lifetime: named.greatest_lifetime,
+        families: Families {
+            ipv4: named.ipv4 != 0,
+            ipv6: named.ipv6 != 0,
+        },
+        dont_fragment: named.dont_fragment != 0,
+        icmp: named.icmp != 0,
+        channel_permits: named.channel_permits != 0,
+        old_channels: named.old_channels != 0,
     }
 }
 
@@ -288,13 +336,14 @@ fn core_of(
     access: Access,
     rules: PeerRules,
 ) -> Result<Box<TurnCore>, AllocError>
+    requires { settings.now.limits.relays < 2 ^ 24 }
     ensures { IfOk result (λ boxed. box_value boxed ≡ record {
-      server = record { limits = limits_named settings.now; state = begun };
+      server = record { limits = limits_named settings.now.limits; state = initial_state; ended = [] };
       access = access;
       rules = rules;
     }) }
 {
-    let server = TurnServer::new(alloc, limits_of(settings), settings.seed)?;
+    let server = TurnServer::new(alloc, limits_of(&settings.limits), settings.seed)?;
     let core = TurnCore {
         server,
         access,

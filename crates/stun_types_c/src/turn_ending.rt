@@ -1,0 +1,138 @@
+//! How the relayed addresses of a TURN server end, and which sockets C closes.
+
+ghost use Rattle.std.specs.Prelude.{◌≡◌};
+ghost use Rattle.turn_slots.specs.Users.{user_number};
+ghost use Rattle.stun_types_c.specs.TurnEnding.{account_in, Polls, EndsOne, EndsUser, Lists, ListsEnded, IsDue, IsNextDue, Counts};
+ghost use Rattle.stun_types_c.specs.TurnHandles.{held_turn};
+
+use crate::turn_core::TurnCore;
+use crate::turn_handle::CTurn;
+use crate::turn_store::{put, take};
+use std::alloc::Global;
+use stun_authentication::Identity;
+use turn_server::user_of;
+use turn_slots::UserId;
+
+/// Ends what has expired.
+#[unsafe(no_mangle)]
+pub extern "C" fn stun_types_turn_poll(alloc: Global, server: &mut CTurn, now: u64) -> usize
+    ensures { Polls now result (held_turn server.old) (held_turn server.new) }
+{
+    let Some(mut core) = take(server, alloc) else {
+        return 0;
+    };
+    core.server.poll(now);
+    let count = core.server.ended().len();
+    put(server, core);
+    count
+}
+
+/// Ends a relayed address.
+#[unsafe(no_mangle)]
+pub extern "C" fn stun_types_turn_end(
+    alloc: Global,
+    server: &mut CTurn,
+    now: u64,
+    relay: u64,
+) -> usize
+    ensures { EndsOne now relay result (held_turn server.old) (held_turn server.new) }
+{
+    let Some(mut core) = take(server, alloc) else {
+        return 0;
+    };
+    core.server.end(now, relay);
+    let count = core.server.ended().len();
+    put(server, core);
+    count
+}
+
+/// The user of this name, in the realm of a server.
+fn account_of(core: &TurnCore, name: &[u8]) -> UserId
+    ensures { user_number result ≡ account_in core.now name.now }
+{
+    user_of(Identity::Name(name), core.access.realm.realm())
+}
+
+/// Ends the relayed addresses of a user.
+#[unsafe(no_mangle)]
+pub extern "C" fn stun_types_turn_end_user(
+    alloc: Global,
+    server: &mut CTurn,
+    now: u64,
+    name: &[u8],
+) -> usize
+    ensures { EndsUser now name.now result (held_turn server.old) (held_turn server.new) }
+{
+    let Some(mut core) = take(server, alloc) else {
+        return 0;
+    };
+    let user = account_of(&core, name);
+    core.server.end_user(now, user);
+    let count = core.server.ended().len();
+    put(server, core);
+    count
+}
+
+/// Copies as many of these numbers as there is room for, from one of them on. Returns how many.
+fn copy_from(numbers: &[u64], first: usize, room: &mut [u64]) -> usize
+    ensures { Lists numbers.now first room.old result room.new }
+{
+    let left = numbers.get(first..).unwrap_or(&[]);
+    let count = left.len().min(room.len());
+    room[..count].copy_from_slice(&left[..count]);
+    count
+}
+
+/// The sockets of the relayed addresses that the last call ended.
+#[unsafe(no_mangle)]
+pub extern "C" fn stun_types_turn_ended(
+    alloc: Global,
+    server: &mut CTurn,
+    first: usize,
+    numbers: &mut [u64],
+) -> usize
+    ensures { ListsEnded first numbers.old result numbers.new (held_turn server.old) (held_turn server.new) }
+{
+    let Some(core) = take(server, alloc) else {
+        return 0;
+    };
+    let count = copy_from(core.server.ended(), first, numbers);
+    put(server, core);
+    count
+}
+
+/// When the next relayed address expires, at most the greatest number.
+fn due_of(core: &TurnCore) -> u64
+    ensures { IsDue core.now result }
+{
+    match core.server.next_due() {
+        Some(due) => u64::try_from(due).unwrap_or(u64::MAX),
+        None => u64::MAX,
+    }
+}
+
+/// When the next relayed address expires.
+#[unsafe(no_mangle)]
+pub extern "C" fn stun_types_turn_next_due(alloc: Global, server: &mut CTurn) -> u64
+    ensures { IsNextDue result (held_turn server.old) (held_turn server.new) }
+{
+    let Some(core) = take(server, alloc) else {
+        return u64::MAX;
+    };
+    let due = due_of(&core);
+    put(server, core);
+    due
+}
+
+/// How many relayed addresses there are.
+#[unsafe(no_mangle)]
+pub extern "C" fn stun_types_turn_count(alloc: Global, server: &mut CTurn) -> usize
+    ensures { Counts result (held_turn server.old) (held_turn server.new) }
+{
+    let Some(core) = take(server, alloc) else {
+        return 0;
+    };
+    let count = core.server.len();
+    put(server, core);
+    count
+}
