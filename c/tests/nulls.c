@@ -266,7 +266,8 @@ static void test_turn_servers(void) {
             LENGTHS(STUN_TYPES_TOO_SMALL, 48, 0));
     ANSWERS(stun_types_turn_peer(server, 0, &address, 0, 0, &id, NULL, 0, delivery),
             LENGTHS(STUN_TYPES_TOO_SMALL, STUN_TYPES_TURN_HEAD, 0));
-    CHECK(stun_types_turn_poll(server, 0, NULL, 0) == 0);
+    CHECK(stun_types_turn_ended(server, 0, NULL, 0) == 0);
+    CHECK(stun_types_turn_end_user(server, 0, NULL, 0) == 0);
     heap_allow(false);
     stun_types_turn_free(server);
     stun_types_turns_free(NULL, 0);

@@ -424,25 +424,28 @@ static void make_server(stun_types_turn *server) {
     stun_types_key_free(secret);
 }
 
-/* A poll counts what it writes, and so it is 0 if it is refused: the allocation that has ended is
-   reported by the next one. */
-static void test_poll(void) {
+/* What counts what it writes is 0 if it is refused: the number of the socket is read by the next call. And a
+   name that is in the handle is nobody's. */
+static void test_ends(void) {
     static uint64_t numbers[6];
     stun_types_turn *const at = (void *)(numbers + 2);
     stun_types_turn before;
     size_t first;
-    site_begin("stun_types_turn_poll");
+    site_begin("stun_types_turn_ended");
     CHECK(site_allocate(0, 1) == 0);
+    CHECK(stun_types_turn_poll(site.server, 600 * SECOND) == 1);
     before = *site.server;
     for (first = 1; first <= 3; first++) {
         memset(numbers, FILL, sizeof numbers);
         *at = before;
-        CHECK(stun_types_turn_poll(at, 600 * SECOND, numbers + first, 2) == 0);
+        CHECK(stun_types_turn_ended(at, 0, numbers + first, 2) == 0);
         CHECK(memcmp(at, &before, sizeof before) == 0 && is_untouched(numbers, 16)
               && is_untouched(numbers + 4, 16));
     }
-    CHECK(stun_types_turn_poll(at, 600 * SECOND, numbers, 2) == 1);
-    CHECK(memcmp(at, &before, sizeof before) == 0 && numbers[0] == site.action->relay);
+    CHECK(stun_types_turn_end_user(at, 600 * SECOND, numbers + 3, 5) == 0);
+    CHECK(memcmp(at, &before, sizeof before) == 0);
+    CHECK(stun_types_turn_ended(at, 0, numbers, 2) == 1);
+    CHECK(memcmp(at, &before, sizeof before) == 0 && numbers[0] == site.action->ipv4.relay);
     site_end();
 }
 
@@ -469,5 +472,5 @@ void test_overlaps(void) {
                     check_two(it, one, other, apart);
     }
     stun_types_turn_free(&server);
-    test_poll();
+    test_ends();
 }

@@ -32,8 +32,12 @@ static void check_no_server(const char *name, uint8_t byte) {
     ANSWERS(turn_from_peer(site.server, 0, 0, &site_peer, 3, &id, room(0), 0, delivery),
             PLAIN(STUN_TYPES_BAD_ARGUMENT));
     ended = (uint64_t *)(void *)room(8);
-    CHECK(stun_types_turn_poll(site.server, 0, ended, 1) == 0);
-    CHECK(is_untouched(ended, 8));
+    CHECK(stun_types_turn_poll(site.server, 0) == 0);
+    CHECK(stun_types_turn_end(site.server, 0, 0) == 0);
+    CHECK(stun_types_turn_end_user(site.server, 0, "alice", 5) == 0);
+    CHECK(stun_types_turn_ended(site.server, 0, ended, 1) == 0 && is_untouched(ended, 8));
+    CHECK(stun_types_turn_next_due(site.server) == UINT64_MAX);
+    CHECK(stun_types_turn_count(site.server) == 0);
     heap_allow(true);
     site_end();
 }
@@ -136,8 +140,14 @@ static void long_texts(turn_making *it) {
 }
 static void no_listening(turn_making *it) { it->listening_count = 0; }
 static void no_features(turn_making *it) { it->settings.features = 0; }
+static void many_relays(turn_making *it) { it->settings.limits.relays = 1 << 24; }
+static void most_relays(turn_making *it) { it->settings.limits.relays = UINT32_MAX; }
+static void many_and_no_secret(turn_making *it) {
+    many_relays(it);
+    no_secret(it);
+}
 static void nothing(turn_making *it) {
-    it->settings.allocations = it->settings.of_user = it->settings.greatest_lifetime = 0;
+    memset(&it->settings.limits, 0, sizeof it->settings.limits);
     it->settings.window = 0;
 }
 static void bounded(turn_making *it) { it->settings.policy.min_hmac_length = 16; }
@@ -154,6 +164,9 @@ static const struct {
     {"another sum of features", four_features, STUN_TYPES_BAD_ARGUMENT, 0, 0},
     {"a spare word", settings_reserved, STUN_TYPES_BAD_ARGUMENT, 0, 0},
     {"the high bit of a spare word", settings_reserved_high, STUN_TYPES_BAD_ARGUMENT, 0, 0},
+    {"2^24 relayed addresses", many_relays, STUN_TYPES_BAD_ARGUMENT, 0, 0},
+    {"the greatest number of relayed addresses", most_relays, STUN_TYPES_BAD_ARGUMENT, 0, 0},
+    {"2^24 relayed addresses, and no secret", many_and_no_secret, STUN_TYPES_BAD_ARGUMENT, 0, 0},
     {"a prefix of 33 bits", denied_33, STUN_TYPES_BAD_ARGUMENT, 0, 0},
     {"a prefix of 129 bits", denied_129, STUN_TYPES_BAD_ARGUMENT, 0, 0},
     {"a prefix of 264 bits", denied_264, STUN_TYPES_BAD_ARGUMENT, 0, 0},
@@ -185,7 +198,7 @@ static const struct {
     {"texts of 763 bytes", long_texts, STUN_TYPES_OK, 0, 0},
     {"no listening address", no_listening, STUN_TYPES_OK, 0, 0},
     {"no features", no_features, STUN_TYPES_OK, 0, 0},
-    {"no allocation, no lifetime and no window", nothing, STUN_TYPES_OK, 0, 0},
+    {"limits of zeros, and no window", nothing, STUN_TYPES_OK, 0, 0},
     {"an HMAC of 16 bytes", bounded, STUN_TYPES_OK, 0, 0},
 };
 
@@ -348,12 +361,22 @@ static void test_lifetimes(void) {
         turn_making it;
         site_begin_alone(lifetimes[i].name);
         it = site_making();
-        it.settings.greatest_lifetime = lifetimes[i].greatest;
+        it.settings.limits.greatest_lifetime = lifetimes[i].greatest;
         site_begin_by(&it);
         CHECK(site_allocate(0, 1) == 0 && site_lifetime() == 600);
         CHECK(site_refresh(0, lifetimes[i].asked) == 0 && site_lifetime() == lifetimes[i].granted);
         site_end();
     }
+}
+
+/* The limits that are recommended, as a macro and as a call. */
+static void test_limits(void) {
+    static const stun_types_turn_limits recommended = STUN_TYPES_TURN_LIMITS;
+    const stun_types_turn_limits other = stun_types_turn_limits_default();
+    row("a TURN server", "the limits that are recommended");
+    CHECK(memcmp(&other, &recommended, sizeof other) == 0);
+    CHECK(other.relays == 4096 && other.of_user == 64 && other.greatest_lifetime == 3600);
+    CHECK(other.ipv4 == 1 && other.ipv6 == 1 && other.channel_permits == 0 && other.old_channels == 0);
 }
 
 /* ---- which peers are allowed */
@@ -447,6 +470,7 @@ void test_turn(void) {
     test_copied();
     test_overwritten();
     test_lifetimes();
+    test_limits();
     test_prefixes();
     test_listening();
 }

@@ -13,13 +13,9 @@ const stun_types_address site_other_peer = {{198, 51, 100, 8}, 4000, 4};
 const stun_types_turn_settings site_settings = {600,
                                                 {1, 2},
                                                 STUN_TYPES_POLICY_BOTH,
-                                                8,
-                                                3,
-                                                3600,
+                                                {8, 3, 0, 3600, 1, 1, 0, 0, 0, 0},
                                                 STUN_TYPES_FEATURE_PASSWORD_ALGORITHMS
                                                     | STUN_TYPES_FEATURE_USERNAME_ANONYMITY,
-                                                0,
-                                                0,
                                                 NULL,
                                                 0,
                                                 NULL,
@@ -79,7 +75,6 @@ void site_begin_alone(const char *name) {
     site.from->stream = 0;
     site.ready = NEW(stun_types_turn_ready);
     memset(site.ready, 0, sizeof *site.ready);
-    site.ready->ipv4 = 1;
     site.ready->any_ipv4 = site_own;
     site.ready->any_ipv4.port = 50001;
     site.ready->even_ipv4 = site_own;
