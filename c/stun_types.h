@@ -1444,18 +1444,18 @@ size_t stun_types_turn_poll(stun_types_turn *server, uint64_t now);
 STUN_TYPES_NODISCARD STUN_TYPES_NONNULL((1))
 size_t stun_types_turn_end(stun_types_turn *server, uint64_t now, uint64_t relay);
 
-/* The same, and ends all relayed addresses of the user with this name in the realm of the server, whether
-   they named themselves by USERNAME or by USERHASH: for example of a user who is revoked. 0: also if the
-   arguments overlap. */
-STUN_TYPES_NODISCARD STUN_TYPES_NONNULL((1))
-size_t stun_types_turn_end_user(stun_types_turn *server, uint64_t now, const void *name, size_t length);
+/* The same, and ends all relayed addresses of the user with this USERHASH, whether they named themselves by
+   it or by USERNAME: for example of a user who is revoked. stun_types_userhash makes it of the name and the
+   realm of the server. 0: also if the arguments overlap. */
+STUN_TYPES_NODISCARD STUN_TYPES_NONNULL((1, 3))
+size_t stun_types_turn_end_user(stun_types_turn *server, uint64_t now, const stun_types_hash *user);
 
 /* The numbers of the sockets that the last call with the server and a time ended, to be closed: from one
    of them on, at most room of them, in no particular order. first: 0, then how many were read. Returns how
    many it wrote; 0: there are no more, or there is no server, or the arguments overlap. A call that returned
    BAD_ARGUMENT, or that changed nothing, left them as they were: look at the count that it returned. */
 STUN_TYPES_NODISCARD STUN_TYPES_NONNULL((1))
-size_t stun_types_turn_ended(stun_types_turn *server, size_t first, uint64_t *numbers, size_t room);
+size_t stun_types_turn_ended(stun_types_turn *server, uint64_t *numbers, size_t room, size_t first);
 
 /* When the next relayed address expires, by the clock of the caller: before, stun_types_turn_poll ends
    nothing. UINT64_MAX: there is none, or no server. */

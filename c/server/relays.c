@@ -132,8 +132,6 @@ static void set_ready(void) {
     relays.ready.even_ipv4 = ready_address(0, &four[EVEN], &four[EVEN]);
     relays.ready.any_ipv6 = ready_address(1, &six[ANY], &six[EVEN]);
     relays.ready.even_ipv6 = ready_address(1, &six[EVEN], &six[EVEN]);
-    relays.ready.ipv4 = relays.families[0].is_there;
-    relays.ready.ipv6 = relays.families[1].is_there;
 }
 
 void open_spares(tally *mine) {
@@ -147,6 +145,8 @@ void open_spares(tally *mine) {
 }
 
 const stun_types_turn_ready *ready_sockets(void) { return &relays.ready; }
+
+bool relays_family(uint16_t family) { return relays.families[family == 4 ? 0 : 1].is_there; }
 
 /* ---- The start ------------------------------------------------------------------------------- */
 
@@ -189,8 +189,13 @@ relay *relay_at(size_t slot) {
     return slot < relays.count && relays.all[slot].is_taken ? &relays.all[slot] : NULL;
 }
 
+size_t relay_slot(const relay *of) { return (size_t)(of - relays.all); }
+
+/* The slot that a number says. */
+static size_t slot_of(uint64_t number) { return (size_t)(number & 0xFFFFFF); }
+
 relay *find_relay(uint64_t number) {
-    relay *found = relay_at((size_t)(number & UINT32_MAX));
+    relay *found = relay_at(slot_of(number));
     return found != NULL && found->number == number ? found : NULL;
 }
 
@@ -204,7 +209,7 @@ static spare *find_spare(const stun_types_address *address) {
 }
 
 relay *take_spare(const stun_types_address *address, uint64_t number) {
-    size_t slot = (size_t)(number & UINT32_MAX);
+    size_t slot = slot_of(number);
     spare *from = find_spare(address);
     if (from == NULL || slot >= relays.count || relays.all[slot].is_taken) return NULL;
     relay *taken = &relays.all[slot];

@@ -283,14 +283,16 @@ typedef struct {
     uint64_t serial;
 } turn_client;
 
-/* The relay sockets of a process. A number that the TURN server gives one has its slot in its low 32
- * bits. */
+/* The relay sockets of a process: each of a relayed address, in the slot that the low 24 bits of its number
+ * say. */
 typedef struct {
     uint64_t number;
     bool is_taken;
     int socket;     /* -1: none */
     unsigned asked; /* how many datagrams are received from it at once */
     uint64_t user; /* other than 0 */
+    stun_types_hash hash; /* of the user, */
+    bool is_listed;       /* and whether the file of users had them */
     uint64_t paid_until;
     turn_client client;
 } relay;
@@ -305,7 +307,7 @@ typedef struct {
     void (*deliver)(turn_client *to, uint8_t *bytes, size_t length, bool alone);
     void (*flush)(void);
     bool copies;
-    void (*changed)(const relay *of, bool begins); /* an allocation begins, or ends; NULL: so what */
+    void (*changed)(const relay *of, bool begins); /* a relay begins, or ends; NULL: so what */
     int poller;
     uint64_t first; /* the number of its first relay socket among the events of `poller` */
     tally *mine;
@@ -338,17 +340,18 @@ void send_to_peers(void);
 /* Receives a few datagrams from the relay socket of an event. */
 void take_from_peers(uint64_t number);
 
-/* Once a second: ends allocations, and opens sockets that are missing. */
+/* Once a second: ends what has expired, and the relays of users who are no longer listed, and opens sockets
+ * that are missing. */
 void look_after_relays(void);
 
-/* A connection has been closed: its allocation, if it still has one, has nobody any more. */
-void orphan_relay(uint64_t number);
-
-/* Whether a 5-tuple still belongs to the allocation of a connection that has been closed. */
-bool is_orphaned(const stun_types_five_tuple *tuple);
+/* Ends a relay whose connection is closed. */
+void end_relay(uint64_t number);
 
 bool prepare_relays(const endpoints *of);
 bool begin_relays(void);
+
+/* Whether there are relays of a family, 4 or 6. */
+bool relays_family(uint16_t family);
 
 /* Opens the spare sockets that are missing. */
 void open_spares(tally *mine);
@@ -358,6 +361,7 @@ const stun_types_turn_ready *ready_sockets(void);
 relay *take_spare(const stun_types_address *address, uint64_t number);
 relay *find_relay(uint64_t number);
 relay *relay_at(size_t slot); /* NULL: it is nobody's */
+size_t relay_slot(const relay *of);
 void close_relay_socket(relay *closed);
 void free_relay(relay *freed);
 
@@ -376,8 +380,14 @@ void protect_users(bool is_needed);
 typedef struct {
     stun_types_key md5, sha256;
     uint64_t user;
+    stun_types_hash hash;
+    bool is_listed; /* in the file of users */
 } user_keys;
 bool find_user(const uint8_t *request, size_t length, unsigned attempt, user_keys *found);
+
+/* Whether the files have been read again since the last call; and whether the file of users has one. */
+bool have_users_changed(void);
+bool is_listed_user(const stun_types_hash *hash);
 
 /* HMAC-SHA1 (RFC 2104). */
 enum { SHA1_LENGTH = 20 };

@@ -11,6 +11,7 @@ enum {
     REPLIES = 65536 + 128 + RESPONSE, /* and of what waits to be sent: a peer's data takes fewer */
     SECOND = 1000,
     CLOSING_TIME = 2000, /* both in milliseconds */
+    MOST_RELAYS = 2, /* of a connection: one of each family */
     /* the number of the first endpoint among the connections, and of the first relay socket */
     LISTENERS = MOST_CONNECTIONS,
     RELAYS = LISTENERS + MOST_ENDPOINTS
@@ -35,8 +36,8 @@ typedef struct {
     uint64_t closed_at;       /* if it is closing */
     uint64_t serial;          /* which of all connections it is */
     bool is_fresh;            /* data of peers has come for it, and isn't sent yet */
-    uint32_t relays;          /* its allocations: one, and those that have ended and are still there */
-    uint64_t relay;           /* the newest */
+    uint32_t relays_count;    /* at most one of each family */
+    uint64_t relays[MOST_RELAYS];
     stun_types_five_tuple tuple;
     stun_types_stream stream;
     size_t piece_at, piece_end;
@@ -119,7 +120,10 @@ static void count_crowds(connection *changed, bool in) {
 
 static void close_connection(connection *closed) {
     connection_bytes *bytes = &tcp.bytes[closed - tcp.connections];
-    if (closed->relays > 0) orphan_relay(closed->relay);
+    while (closed->relays_count > 0) {
+        uint64_t last = closed->relays[--closed->relays_count];
+        end_relay(last);
+    }
     if (closed->large) (void)madvise(bytes, sizeof *bytes, MADV_DONTNEED);
     close(closed->socket);
     closed->open = false;
@@ -137,7 +141,7 @@ static void reset_connection(connection *closed) {
 /* Whether a connection is needed less than another: the other has an allocation; or it is of a fuller
  * neighbourhood, compared from the widest on, or of ones as full, and has been idle longer. */
 static bool is_needed_less(const connection *a, const connection *b) {
-    if ((a->relays > 0) != (b->relays > 0)) return b->relays > 0;
+    if ((a->relays_count > 0) != (b->relays_count > 0)) return b->relays_count > 0;
     for (int i = 0; i < NEIGHBOURHOODS; i++) {
         if (a->crowds[i] != b->crowds[i]) return a->crowds[i] > b->crowds[i];
     }
@@ -160,7 +164,7 @@ static connection *free_place(void) {
     }
     if (tcp.open_end < tcp.end) return tcp.open_end;
     connection *least = find_least_needed();
-    if (least->relays > 0) return NULL;
+    if (least->relays_count > 0) return NULL;
     reset_connection(least);
     count(tcp.mine, TCP_DISPLACED, 1);
     return least;
@@ -322,7 +326,7 @@ static uint32_t serve_relayed(connection *of, connection_bytes *bytes) {
 
 static void serve_connection(connection *of) {
     connection_bytes *bytes = &tcp.bytes[of - tcp.connections];
-    bool is_relayed = of->relays > 0 && !of->closing;
+    bool is_relayed = of->relays_count > 0 && !of->closing;
     uint32_t events = is_relayed ? serve_relayed(of, bytes) : serve_in_turn(of, bytes);
     if (events == 0 || !await(of, events)) close_connection(of);
 }
@@ -379,12 +383,14 @@ static void send_fresh(void) {
     tcp.fresh_count = 0;
 }
 
-/* Counts the allocations of a connection. Its time-outs begin anew after the last. */
+/* Keeps the relays of a connection. Its time-outs begin anew after the last. */
 static void change_relays(const relay *changed, bool begins) {
     connection *of = &tcp.connections[changed->client.connection];
     if (!of->open || of->serial != changed->client.serial) return;
-    of->relays = begins ? of->relays + 1 : of->relays - 1;
-    if (begins) of->relay = changed->number;
+    uint32_t at = 0;
+    while (at < of->relays_count && of->relays[at] != changed->number) at++;
+    if (begins && at < MOST_RELAYS) of->relays[of->relays_count++] = changed->number;
+    if (!begins && at < of->relays_count) of->relays[at] = of->relays[--of->relays_count];
     of->accepted = of->heard = tcp.now;
 }
 
@@ -399,7 +405,7 @@ static bool read_tuple(int socket, const struct sockaddr_storage *from, stun_typ
     if (!address_of(from, &tuple->client)) return false;
     if (!setting(TURN)) return true;
     return getsockname(socket, (struct sockaddr *)&own, &length) == 0 &&
-           address_of(&own, &tuple->server) && !is_orphaned(tuple);
+           address_of(&own, &tuple->server);
 }
 
 /* What the stream of a connection carries. */
@@ -470,7 +476,7 @@ static bool is_over(uint64_t since, uint32_t seconds) {
  * allocation lasts as long as that. */
 static int overdue(const connection *of) {
     if (of->stream.pending > 0 && is_over(of->begun, setting(REQUEST_TIMEOUT))) return TCP_SLOW;
-    if (of->relays > 0) return COUNTS;
+    if (of->relays_count > 0) return COUNTS;
     if (is_over(of->heard, setting(IDLE_TIMEOUT))) return TCP_IDLE;
     if (is_over(of->accepted, setting(MAX_AGE))) return TCP_AGED;
     return COUNTS;

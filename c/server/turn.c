@@ -27,8 +27,6 @@ static struct {
     turn_process process;
     uint64_t now;
     user_keys keys;
-    relay **orphans; /* whose connections have been closed */
-    size_t orphans_count;
     stun_types_id ids[IDS]; /* random */
     size_t ids_left;
 } turn;
@@ -60,13 +58,15 @@ static void set_settings(void) {
     bool has_hashes = text_setting(SECRET, 0) == NULL; /* a hash doesn't say until when it is valid */
     const char *realm = text_setting(REALM, 0), *software = setting(SOFTWARE) ? "stun-types" : "";
     plan.settings.window = setting(NONCE_LIFETIME);
-    plan.settings.allocations = setting(ALLOCATIONS);
-    plan.settings.of_user = setting(USER_ALLOCATIONS);
-    plan.settings.greatest_lifetime = setting(LIFETIME);
+    plan.settings.limits = (stun_types_turn_limits){.relays = setting(ALLOCATIONS),
+                                                    .of_user = setting(USER_ALLOCATIONS),
+                                                    .greatest_lifetime = setting(LIFETIME),
+                                                    .ipv4 = relays_family(4),
+                                                    .ipv6 = relays_family(6),
+                                                    .channel_permits = setting(CHANNEL_PERMITS) != 0,
+                                                    .old_channels = setting(OLD_CHANNELS) != 0};
     if (setting(SHA256)) plan.settings.features |= STUN_TYPES_FEATURE_PASSWORD_ALGORITHMS;
     if (has_hashes) plan.settings.features |= STUN_TYPES_FEATURE_USERNAME_ANONYMITY;
-    plan.settings.channel_permits = setting(CHANNEL_PERMITS);
-    plan.settings.old_channels = setting(OLD_CHANNELS);
     plan.settings.realm = realm;
     plan.settings.realm_length = strlen(realm);
     plan.settings.software = software;
@@ -126,8 +126,7 @@ bool begin_turn(const turn_process *of) {
         incoming[i].msg_hdr.msg_iov = &incoming_at[i];
         incoming[i].msg_hdr.msg_iovlen = 1;
     }
-    turn.orphans = calloc(setting(ALLOCATIONS), sizeof *turn.orphans);
-    if (turn.orphans == NULL || !make_server(&turn.server) || !begin_relays()) return false;
+    if (!make_server(&turn.server) || !begin_relays()) return false;
     memset(plan.secret, 0, sizeof plan.secret);
     open_spares(turn.process.mine);
     return true;
@@ -136,6 +135,52 @@ bool begin_turn(const turn_process *of) {
 void begin_turn_at(uint64_t now) {
     turn.now = now;
     held = 0;
+}
+
+/* ---- The end of relays ----------------------------------------------------------------------- */
+
+static void close_relay(uint64_t number) {
+    relay *ended = find_relay(number);
+    count(turn.process.mine, TURN_ENDED, 1);
+    if (ended == NULL) return;
+    if (turn.process.changed != NULL) turn.process.changed(ended, false);
+    free_relay(ended);
+}
+
+/* Closes the sockets that the last call ended: it says how many. What waits for them, and for their clients,
+ * is sent first. */
+static void close_ended(size_t ended) {
+    enum { MANY = 64 };
+    uint64_t numbers[MANY];
+    size_t got = 0;
+    if (ended == 0) return;
+    send_to_peers();
+    if (turn.process.flush != NULL) turn.process.flush();
+    for (size_t first = 0; first < ended; first += got) {
+        got = stun_types_turn_ended(&turn.server, numbers, MANY, first);
+        if (got == 0) return;
+        for (size_t i = 0; i < got; i++) close_relay(numbers[i]);
+    }
+}
+
+void end_relay(uint64_t number) {
+    close_ended(stun_types_turn_end(&turn.server, turn.now, number));
+}
+
+/* Ends the relays of users whom the file had and no longer has. */
+static void end_revoked(void) {
+    if (!have_users_changed()) return;
+    for (size_t slot = 0; slot < setting(ALLOCATIONS); slot++) {
+        const relay *at = relay_at(slot);
+        if (at == NULL || !at->is_listed || is_listed_user(&at->hash)) continue;
+        close_ended(stun_types_turn_end_user(&turn.server, turn.now, &at->hash));
+    }
+}
+
+void look_after_relays(void) {
+    close_ended(stun_types_turn_poll(&turn.server, turn.now));
+    end_revoked();
+    open_spares(turn.process.mine);
 }
 
 /* ---- From a client --------------------------------------------------------------------------- */
@@ -148,8 +193,10 @@ static stun_types_answer pass_on(const turn_client *from, const uint8_t *bytes, 
                                                .from = from->tuple,
                                                .ready = *ready_sockets(),
                                                .looked_up = looked_up};
-    return stun_types_turn_client(&turn.server, turn.now, &datagram, &turn.keys.md5,
-                                  &turn.keys.sha256, room, size, action);
+    stun_types_answer answer = stun_types_turn_client(&turn.server, turn.now, &datagram, &turn.keys.md5,
+                                                      &turn.keys.sha256, room, size, action);
+    close_ended(action->ended);
+    return answer;
 }
 
 static void free_keys(void) {
@@ -175,22 +222,25 @@ static stun_types_answer pass_on_signed(const turn_client *from, const uint8_t *
         if (!is_known && attempt > 0) break;
         answer = pass_on(from, datagram, length, true, room, size, action);
         free_keys();
-    } while (is_known && answer.code == STUN_TYPES_OK && action->took == 0 &&
+    } while (is_known && answer.code == STUN_TYPES_OK && action->kind == STUN_TYPES_TURN_RESPONSE &&
              action->code == STUN_TYPES_CODE_UNAUTHORIZED && ++attempt > 0);
     return answer;
 }
 
-/* Keeps the socket of a new allocation. If it can't be waited for, the allocation has none. */
-static void keep_socket(const turn_client *of, const stun_types_turn_action *action) {
+/* Keeps the socket that a request took, if it took one. If it can't be waited for, the relay has none. */
+static void keep_socket(const turn_client *of, const stun_types_turn_opened *opened) {
     struct epoll_event event;
-    relay *taken = take_spare(&action->peer, action->relay);
+    if (!opened->took) return;
+    relay *taken = take_spare(&opened->relayed, opened->relay);
     open_spares(turn.process.mine);
     if (taken == NULL) return;
     taken->client = *of;
     taken->user = turn.keys.user;
+    taken->hash = turn.keys.hash;
+    taken->is_listed = turn.keys.is_listed;
     memset(&event, 0, sizeof event);
     event.events = EPOLLIN;
-    event.data.u64 = turn.process.first + (action->relay & UINT32_MAX);
+    event.data.u64 = turn.process.first + relay_slot(taken);
     if (epoll_ctl(turn.process.poller, EPOLL_CTL_ADD, taken->socket, &event) != 0) {
         close_relay_socket(taken);
     }
@@ -247,11 +297,12 @@ static void count_response(uint32_t code) {
 
 turn_outcome take_from_client(const turn_client *from, const uint8_t *datagram, size_t length,
                               uint8_t *room, size_t size, size_t *written) {
-    stun_types_turn_action action = {.took = 0};
+    stun_types_turn_action action = {.ended = 0};
     stun_types_answer answer = pass_on(from, datagram, length, false, room, size, &action);
     bool is_signed = answer.code == STUN_TYPES_OK && action.kind == STUN_TYPES_TURN_NEEDS_KEY;
     if (is_signed) answer = pass_on_signed(from, datagram, length, room, size, &action);
-    if (action.took) keep_socket(from, &action);
+    keep_socket(from, &action.ipv4);
+    keep_socket(from, &action.ipv6);
     if (answer.code != STUN_TYPES_OK) return TURN_NOTHING_DUE;
     if (action.kind == STUN_TYPES_TURN_TO_PEER) {
         send_later(&action, datagram);
@@ -288,8 +339,10 @@ static void relay_data(relay *by, const struct sockaddr_storage *source, uint8_t
                              STUN_TYPES_TURN_HEAD, &delivery);
     if (answer.code != STUN_TYPES_OK || !delivery.sends) {
         count(turn.process.mine, TURN_DROPPED, 1);
+        close_ended(delivery.ended);
         return;
     }
+    close_ended(delivery.ended); /* (not this one, which is live) */
     if (!may_relay(by, length)) return;
     if (delivery.head_length > 4 && turn.ids_left > 0) turn.ids_left--;
     memset(room + STUN_TYPES_TURN_HEAD + length, 0, delivery.padding);
@@ -327,48 +380,4 @@ void take_from_peers(uint64_t number) {
         relay_data(by, &sources[i], rooms[held + i], incoming[i].msg_len, got == 1);
     }
     if (turn.process.flush != NULL) held += got; /* (otherwise their rooms are free again) */
-}
-
-/* ---- The end of allocations ------------------------------------------------------------------ */
-
-/* Takes a relay out of the orphans, if it is one. */
-static void forget_orphan(const relay *of) {
-    for (size_t i = 0; i < turn.orphans_count; i++) {
-        if (turn.orphans[i] == of) turn.orphans[i] = turn.orphans[--turn.orphans_count];
-    }
-}
-
-static void end_relay(uint64_t number) {
-    relay *ended = find_relay(number);
-    count(turn.process.mine, TURN_ENDED, 1);
-    if (ended == NULL) return;
-    forget_orphan(ended);
-    if (turn.process.changed != NULL) turn.process.changed(ended, false);
-    free_relay(ended);
-}
-
-void look_after_relays(void) {
-    enum { MANY = 64 };
-    uint64_t ended[MANY];
-    size_t count;
-    do {
-        count = stun_types_turn_poll(&turn.server, turn.now, ended, MANY);
-        for (size_t i = 0; i < count; i++) end_relay(ended[i]);
-    } while (count == MANY);
-    open_spares(turn.process.mine);
-}
-
-void orphan_relay(uint64_t number) {
-    relay *of = find_relay(number);
-    if (of == NULL) return;
-    send_to_peers();
-    turn.orphans[turn.orphans_count++] = of;
-    close_relay_socket(of);
-}
-
-bool is_orphaned(const stun_types_five_tuple *tuple) {
-    for (size_t i = 0; i < turn.orphans_count; i++) {
-        if (memcmp(&turn.orphans[i]->client.tuple, tuple, sizeof *tuple) == 0) return true;
-    }
-    return false;
 }

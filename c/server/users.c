@@ -240,6 +240,19 @@ static bool copy_user(const stun_types_hash *hash, user *copy) {
     }
 }
 
+bool is_listed_user(const stun_types_hash *hash) {
+    user found;
+    return copy_user(hash, &found);
+}
+
+bool have_users_changed(void) {
+    static uint32_t seen;
+    uint32_t turn = atomic_load_explicit(&shared->turn, memory_order_acquire);
+    bool is_new = seen != 0 && turn != seen;
+    seen = turn;
+    return is_new;
+}
+
 /* Copies a secret. Returns its length, 0: there is none. */
 static size_t copy_secret(unsigned which, uint8_t secret[SECRET_ROOM]) {
     for (;;) {
@@ -317,7 +330,9 @@ bool find_user(const uint8_t *request, size_t length, unsigned attempt, user_key
     if (!find_hash(request, length, &hash, &name)) return false;
     memcpy(&found->user, hash.bytes, sizeof found->user);
     found->user |= 1;
-    if (copy_user(&hash, &known)) {
+    found->hash = hash;
+    found->is_listed = copy_user(&hash, &known);
+    if (found->is_listed) {
         return attempt == 0 && (!known.has_md5 || set_key(&found->md5, known.md5, MD5_LENGTH)) &&
                (!known.has_sha256 || set_key(&found->sha256, known.sha256, SHA256_LENGTH));
     }

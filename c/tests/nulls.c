@@ -15,7 +15,7 @@ static const stun_types_id id = {{0}};
 #define NO_VALUE PLAIN(STUN_TYPES_BAD_ARGUMENT)
 #define AN_ADDRESS {{192, 0, 2, 1}, 32853, 4}
 #define NO_ADDRESS {{0}, 0, 0}
-#define NOT_READY {NO_ADDRESS, NO_ADDRESS, NO_ADDRESS, NO_ADDRESS, 0, 0}
+#define NOT_READY {NO_ADDRESS, NO_ADDRESS, NO_ADDRESS, NO_ADDRESS}
 static const stun_types_address address = AN_ADDRESS;
 static const stun_types_covered no_covered = {STUN_TYPES_INTEGRITY_SHA1, {0}, 0};
 static const stun_types_hmac no_hmac = {STUN_TYPES_INTEGRITY_SHA1, {0}};
@@ -266,8 +266,7 @@ static void test_turn_servers(void) {
             LENGTHS(STUN_TYPES_TOO_SMALL, 48, 0));
     ANSWERS(stun_types_turn_peer(server, 0, &address, 0, 0, &id, NULL, 0, delivery),
             LENGTHS(STUN_TYPES_TOO_SMALL, STUN_TYPES_TURN_HEAD, 0));
-    CHECK(stun_types_turn_ended(server, 0, NULL, 0) == 0);
-    CHECK(stun_types_turn_end_user(server, 0, NULL, 0) == 0);
+    CHECK(stun_types_turn_ended(server, NULL, 0, 0) == 0);
     heap_allow(false);
     stun_types_turn_free(server);
     stun_types_turns_free(NULL, 0);

@@ -425,7 +425,7 @@ static void make_server(stun_types_turn *server) {
 }
 
 /* What counts what it writes is 0 if it is refused: the number of the socket is read by the next call. And a
-   name that is in the handle is nobody's. */
+   user whose hash is in the handle is nobody. */
 static void test_ends(void) {
     static uint64_t numbers[6];
     stun_types_turn *const at = (void *)(numbers + 2);
@@ -438,13 +438,14 @@ static void test_ends(void) {
     for (first = 1; first <= 3; first++) {
         memset(numbers, FILL, sizeof numbers);
         *at = before;
-        CHECK(stun_types_turn_ended(at, 0, numbers + first, 2) == 0);
+        CHECK(stun_types_turn_ended(at, numbers + first, 2, 0) == 0);
         CHECK(memcmp(at, &before, sizeof before) == 0 && is_untouched(numbers, 16)
               && is_untouched(numbers + 4, 16));
     }
-    CHECK(stun_types_turn_end_user(at, 600 * SECOND, numbers + 3, 5) == 0);
+    row("overlaps", "stun_types_turn_end_user");
+    CHECK(stun_types_turn_end_user(at, 600 * SECOND, (const void *)(numbers + 2)) == 0);
     CHECK(memcmp(at, &before, sizeof before) == 0);
-    CHECK(stun_types_turn_ended(at, 0, numbers, 2) == 1);
+    CHECK(stun_types_turn_ended(at, numbers, 2, 0) == 1);
     CHECK(memcmp(at, &before, sizeof before) == 0 && numbers[0] == site.action->ipv4.relay);
     site_end();
 }

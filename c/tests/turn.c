@@ -34,8 +34,8 @@ static void check_no_server(const char *name, uint8_t byte) {
     ended = (uint64_t *)(void *)room(8);
     CHECK(stun_types_turn_poll(site.server, 0) == 0);
     CHECK(stun_types_turn_end(site.server, 0, 0) == 0);
-    CHECK(stun_types_turn_end_user(site.server, 0, "alice", 5) == 0);
-    CHECK(stun_types_turn_ended(site.server, 0, ended, 1) == 0 && is_untouched(ended, 8));
+    CHECK(site_end_user(0, "alice") == 0);
+    CHECK(stun_types_turn_ended(site.server, ended, 1, 0) == 0 && is_untouched(ended, 8));
     CHECK(stun_types_turn_next_due(site.server) == UINT64_MAX);
     CHECK(stun_types_turn_count(site.server) == 0);
     heap_allow(true);

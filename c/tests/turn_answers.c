@@ -306,10 +306,10 @@ static void test_both_families(void) {
     site_take(0, bytes);
     CHECK(site.action->code == 0 && site.action->ipv4.took == 0 && site.action->ipv6.took == 0);
     CHECK(stun_types_turn_end(site.server, 0, ipv6.relay) == 1);
-    CHECK(stun_types_turn_ended(site.server, 0, ended, 2) == 1 && ended[0] == ipv6.relay);
+    CHECK(stun_types_turn_ended(site.server, ended, 2, 0) == 1 && ended[0] == ipv6.relay);
     CHECK(stun_types_turn_count(site.server) == 1 && site_permit(0, &site_peer) == 0);
     CHECK(site_refresh(0, 0) == 0 && site.action->ended == 1);
-    CHECK(stun_types_turn_ended(site.server, 0, ended, 2) == 1 && ended[0] == ipv4.relay);
+    CHECK(stun_types_turn_ended(site.server, ended, 2, 0) == 1 && ended[0] == ipv4.relay);
     site_end();
     site_begin("one of them has no socket");
     CHECK(allocate_both(0) == 0);
@@ -575,7 +575,7 @@ static size_t count_ended(const uint64_t *relays, size_t count, size_t portion) 
     size_t first = 0, wrote, j, k, all = 0;
     do {
         uint64_t *ended = (uint64_t *)(void *)room(portion * sizeof *ended);
-        wrote = stun_types_turn_ended(site.server, first, ended, portion);
+        wrote = stun_types_turn_ended(site.server, ended, portion, first);
         CHECK(wrote <= portion);
         for (j = 0; j < wrote && j < portion; j++)
             for (k = 0; k < count; k++)
@@ -618,7 +618,7 @@ static void test_ends(void) {
             size_t ended = 0;
             begin_relays(names[i], relays, 5);
             CHECK(stun_types_turn_poll(site.server, 600 * SECOND - 1) == 0);
-            CHECK(stun_types_turn_ended(site.server, 0, &one, 1) == 0);
+            CHECK(stun_types_turn_ended(site.server, &one, 1, 0) == 0);
             CHECK(stun_types_turn_count(site.server) == 5);
             CHECK(stun_types_turn_next_due(site.server) == 600 * SECOND);
             switch (i) {
@@ -640,16 +640,16 @@ static void test_ends(void) {
                 break;
             }
             case 4: ended = stun_types_turn_end(site.server, 600 * SECOND, relays[0]); break;
-            default: ended = stun_types_turn_end_user(site.server, 600 * SECOND, "bob", 3);
+            default: ended = site_end_user(600 * SECOND, "bob");
             }
             CHECK(ended == 5 && count_ended(relays, 5, portion) == 5);
-            CHECK(stun_types_turn_ended(site.server, 5, &one, 1) == 0);
-            CHECK(stun_types_turn_ended(site.server, SIZE_MAX, &one, 1) == 0);
-            CHECK(stun_types_turn_ended(site.server, 0, NULL, 0) == 0);
+            CHECK(stun_types_turn_ended(site.server, &one, 1, 5) == 0);
+            CHECK(stun_types_turn_ended(site.server, &one, 1, SIZE_MAX) == 0);
+            CHECK(stun_types_turn_ended(site.server, NULL, 0, 0) == 0);
             CHECK(stun_types_turn_count(site.server) == 0);
             CHECK(stun_types_turn_next_due(site.server) == UINT64_MAX);
             CHECK(stun_types_turn_poll(site.server, 600 * SECOND) == 0);
-            CHECK(stun_types_turn_ended(site.server, 0, &one, 1) == 0);
+            CHECK(stun_types_turn_ended(site.server, &one, 1, 0) == 0);
             site_end();
         }
 }
@@ -668,14 +668,14 @@ static void test_ending(void) {
     site.alice = alice;
     CHECK(stun_types_turn_end(site.server, 0, other ^ 1) == 0);
     CHECK(stun_types_turn_end(site.server, 0, relays[2]) == 1);
-    CHECK(stun_types_turn_ended(site.server, 0, &one, 1) == 1 && one == relays[2]);
+    CHECK(stun_types_turn_ended(site.server, &one, 1, 0) == 1 && one == relays[2]);
     CHECK(stun_types_turn_end(site.server, 0, relays[2]) == 0);
-    CHECK(stun_types_turn_end_user(site.server, 0, "carol", 5) == 0);
-    CHECK(stun_types_turn_end_user(site.server, 0, "", 0) == 0);
-    CHECK(stun_types_turn_end_user(site.server, 0, "alice", 5) == 3);
+    CHECK(site_end_user(0, "carol") == 0);
+    CHECK(site_end_user(0, "") == 0);
+    CHECK(site_end_user(0, "alice") == 3);
     CHECK(count_ended(relays, 4, 2) == 3 && stun_types_turn_count(site.server) == 1);
-    CHECK(stun_types_turn_end_user(site.server, 0, "bob", 3) == 1);
-    CHECK(stun_types_turn_ended(site.server, 0, &one, 1) == 1 && one == other);
+    CHECK(site_end_user(0, "bob") == 1);
+    CHECK(stun_types_turn_ended(site.server, &one, 1, 0) == 1 && one == other);
     site_end();
 }
 
@@ -691,7 +691,7 @@ static void test_ended_stays(void) {
                                    SITE_ROOM, site.action),
             PLAIN(STUN_TYPES_BAD_ARGUMENT));
     CHECK(is_zero(site.action, sizeof *site.action));
-    CHECK(stun_types_turn_ended(site.server, 0, &one, 1) == 1 && one == relays[1]);
+    CHECK(stun_types_turn_ended(site.server, &one, 1, 0) == 1 && one == relays[1]);
     CHECK(stun_types_turn_count(site.server) == 1);
     site_end();
 }
@@ -848,8 +848,8 @@ static void test_no_memory(void) {
     CHECK(site_deliver(0, relay, &site_peer, 3)->sends == 1);
     CHECK(stun_types_turn_poll(site.server, 0) == 0 && stun_types_turn_count(site.server) == 1);
     CHECK(stun_types_turn_end(site.server, 0, relay) == 1);
-    CHECK(stun_types_turn_ended(site.server, 0, &relay, 1) == 1);
-    CHECK(stun_types_turn_end_user(site.server, 0, "alice", 5) == 0);
+    CHECK(stun_types_turn_ended(site.server, &relay, 1, 0) == 1);
+    CHECK(site_end_user(0, "alice") == 0);
     heap_allow(true);
     site_end();
 }

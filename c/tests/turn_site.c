@@ -202,6 +202,13 @@ stun_types_address site_relayed(void) {
     return turn_address(all.bytes, all.length, STUN_TYPES_ATTRIBUTE_XOR_RELAYED_ADDRESS);
 }
 
+size_t site_end_user(uint64_t now, const char *name) {
+    stun_types_hash *user = NEW(stun_types_hash);
+    const slice one = text(name), realm = text(turn_realm);
+    ANSWERS(stun_types_userhash(one.bytes, one.length, realm.bytes, realm.length, user), OK_ANSWER);
+    return stun_types_turn_end_user(site.server, now, user);
+}
+
 stun_types_turn_delivery *site_deliver(uint64_t now, uint64_t relay,
                                        const stun_types_address *address, size_t length) {
     stun_types_turn_delivery *delivery = NEW(stun_types_turn_delivery);

@@ -69,6 +69,9 @@ uint32_t site_refresh(uint64_t now, uint32_t seconds);
 uint32_t site_permit(uint64_t now, const stun_types_address *address);
 uint32_t site_bind(uint64_t now, uint16_t number, const stun_types_address *address);
 
+/* Ends all relayed addresses of a user by name; returns how many ended. */
+size_t site_end_user(uint64_t now, const char *name);
+
 /* Sends three bytes to a peer; whether they are relayed. */
 bool site_sends_to(uint64_t now, const stun_types_address *address);
 

@@ -251,7 +251,7 @@ static void keep_ended(turn_row *it, size_t count) {
     size_t first = 0, wrote, at;
     do {
         uint64_t *ended = (uint64_t *)(void *)room(ENDED * sizeof *ended);
-        wrote = stun_types_turn_ended(it->server, first, ended, ENDED);
+        wrote = stun_types_turn_ended(it->server, ended, ENDED, first);
         CHECK(wrote == (count - first < ENDED ? count - first : ENDED));
         for (at = 0; at < wrote && at < ENDED; at++) {
             const size_t number = number_of(it, ended[at]);
@@ -499,8 +499,10 @@ bool answer_ends(turn_row *it, const char *name) {
         user = turn_user_of(call_word());
         if (user == TURN_USERS) answer_unknown();
         else {
-            const slice one = text(known_users[user].name);
-            keep_ended(it, stun_types_turn_end_user(it->server, it->now, one.bytes, one.length));
+            const slice one = text(known_users[user].name), realm = text(turn_realm);
+            stun_types_hash *hash = NEW(stun_types_hash);
+            ANSWERS(stun_types_userhash(one.bytes, one.length, realm.bytes, realm.length, hash), OK_ANSWER);
+            keep_ended(it, stun_types_turn_end_user(it->server, it->now, hash));
         }
     } else return false;
     if (it->ended == 0) {

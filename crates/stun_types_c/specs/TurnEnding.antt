@@ -1,10 +1,9 @@
 -- How the relayed addresses of a TURN server end, as C sees it.
 use Rattle.std.specs.Prelude.{◌≡◌, ℕ, List, ◌++◌, [], take, drop, length, Option, None, MatchOption, IsSomeAnd, nat_le, if◌then◌else◌}
-use Rattle.stun_attributes.specs.Texts.{text_bytes}
-use Rattle.stun_authentication.specs.Identities.{named}
 use Rattle.turn_machine.specs.Events.{Event, ends, ends_user, ticks, nothing}
 use Rattle.turn_allocations.specs.Tables.{IsStep, IsNextEnd}
-use Rattle.turn_server.specs.Accounts.{account_of}
+use Rattle.turn_slots.specs.Users.{number_of}
+use Rattle.stun_types_c.specs.declared.keys.Hash.{Hash}
 use Rattle.stun_types_c.specs.declared.turn_core.TurnCore.{TurnCore}
 use Rattle.stun_types_c.specs.TurnClients.{IsSameServer}
 use Rattle.stun_types_c.specs.TurnServers.{setup_in, rules_in}
@@ -31,13 +30,9 @@ Polls now count old new = EndsIn (λ core. ticks) now count old new
 abbrev pub EndsOne : (now relay count : ℕ) → (old new : Option TurnCore) → Type 0
 EndsOne now relay count old new = EndsIn (λ core. ends relay) now count old new
 
--- the number of the user of a name, in the realm of a server
-abbrev pub account_in : TurnCore → (name : List ℕ) → ℕ
-account_in core name = account_of (text_bytes core.access.realm) (named name)
-
--- and all of a user
-abbrev pub EndsUser : (now : ℕ) → (name : List ℕ) → (count : ℕ) → (old new : Option TurnCore) → Type 0
-EndsUser now name count old new = EndsIn (λ core. ends_user (account_in core name)) now count old new
+-- and all of the user with a USERHASH
+abbrev pub EndsUser : (now : ℕ) → Hash → (count : ℕ) → (old new : Option TurnCore) → Type 0
+EndsUser now user count old new = EndsIn (λ core. ends_user (number_of user.bytes)) now count old new
 
 -- ---- Which sockets are closed
 

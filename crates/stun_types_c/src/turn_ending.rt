@@ -1,17 +1,16 @@
 //! How the relayed addresses of a TURN server end, and which sockets C closes.
 
 ghost use Rattle.std.specs.Prelude.{◌≡◌};
-ghost use Rattle.turn_slots.specs.Users.{user_number};
-ghost use Rattle.stun_types_c.specs.TurnEnding.{account_in, Polls, EndsOne, EndsUser, Lists, ListsEnded, IsDue, IsNextDue, Counts};
+ghost use Rattle.turn_slots.specs.Users.{user_number, number_of};
+ghost use Rattle.stun_types_c.specs.TurnEnding.{Polls, EndsOne, EndsUser, Lists, ListsEnded, IsDue, IsNextDue, Counts};
 ghost use Rattle.stun_types_c.specs.TurnHandles.{held_turn};
 
+use crate::keys::Hash;
 use crate::turn_core::TurnCore;
 use crate::turn_handle::CTurn;
 use crate::turn_store::{put, take};
 use std::alloc::Global;
-use stun_authentication::Identity;
-use turn_server::user_of;
-use turn_slots::UserId;
+use turn_slots::{UserId, user_numbers_are_their_bytes};
 
 /// Ends what has expired.
 #[unsafe(no_mangle)]
@@ -46,11 +45,12 @@ pub extern "C" fn stun_types_turn_end(
     count
 }
 
-/// The user of this name, in the realm of a server.
-fn account_of(core: &TurnCore, name: &[u8]) -> UserId
-    ensures { user_number result ≡ account_in core.now name.now }
+/// The user with this USERHASH.
+fn account_of(user: &Hash) -> UserId
+    ensures { user_number result ≡ number_of user.now.bytes }
 {
-    user_of(Identity::Name(name), core.access.realm.realm())
+    user_numbers_are_their_bytes();
+    UserId::from(user.bytes)
 }
 
 /// Ends the relayed addresses of a user.
@@ -59,15 +59,14 @@ pub extern "C" fn stun_types_turn_end_user(
     alloc: Global,
     server: &mut CTurn,
     now: u64,
-    name: &[u8],
+    user: &Hash,
 ) -> usize
-    ensures { EndsUser now name.now result (held_turn server.old) (held_turn server.new) }
+    ensures { EndsUser now user.now result (held_turn server.old) (held_turn server.new) }
 {
     let Some(mut core) = take(server, alloc) else {
         return 0;
     };
-    let user = account_of(&core, name);
-    core.server.end_user(now, user);
+    core.server.end_user(now, account_of(user));
     let count = core.server.ended().len();
     put(server, core);
     count
@@ -88,8 +87,8 @@ fn copy_from(numbers: &[u64], first: usize, room: &mut [u64]) -> usize
 pub extern "C" fn stun_types_turn_ended(
     alloc: Global,
     server: &mut CTurn,
-    first: usize,
     numbers: &mut [u64],
+    first: usize,
 ) -> usize
     ensures { ListsEnded first numbers.old result numbers.new (held_turn server.old) (held_turn server.new) }
 {
