@@ -36,7 +36,7 @@ static const struct {
                   "seconds that an allocation lasts at most until it is refreshed"},
     [NONCE_LIFETIME] = {"nonce-lifetime", 1, 86400, 600, true, "seconds that a nonce is valid"},
     [CHANNEL_PERMITS] = {"channel-permits", 0, 1, 0, true,
-                         "1: a channel permits its peer as long as it lasts, for aioice"},
+                         "1: the permission of a channel lasts as long as it, for aioice"},
     [OLD_CHANNELS] = {"old-channels", 0, 1, 0, true, "1: channels up to 0x7FFF too, for coturn's client"},
     [SHA256] = {"sha256", 0, 1, 1, true, "1: users may sign with SHA-256; all have a key for it"},
     [BANDWIDTH] = {"bandwidth", 0, INT32_MAX, 0, false,

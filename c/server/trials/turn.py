@@ -475,13 +475,18 @@ def credentials(programs):
 
 
 def users_again(programs):
-    """The users are read again at SIGHUP, in each process; who has an allocation and is no user any more
-    is refused from then on. A wrong file changes nothing."""
-    with turn_server(programs, "-t") as server, Client(server) as client:
+    """The users are read again at SIGHUP, in each process; who is no user any more is refused from then on,
+    and has no allocation. A wrong file changes nothing."""
+    with turn_server(programs, "-t", users="user pass\nother word\n") as server, Client(server) as client, \
+            Client(server, "other", "word") as kept, Client(server, stream=True) as streams:
         client.allocate()
+        streams.allocate()
+        kept.allocate()
         reread(server, "users", "other word\n")
         check(server.wait_for("users-read")["users"] == "1", "another number of users")
+        wait_until(lambda: server.counts()["turn_ended"] == 2, "relays of a user who is revoked last")
         client.refresh(wanted=401)
+        kept.refresh()
         for stream in (False, True):
             with Client(server, "other", "word", stream=stream) as other:
                 other.allocate()
@@ -667,7 +672,7 @@ def workers_killed(programs):
 
 def connections(programs):
     """A connection with an allocation lasts as long as that, whatever the time-outs and however full the
-    table; when it is closed its socket is too, and what its 5-tuple was isn't another's."""
+    table; when it is closed its relay ends at once, and the next connection of its 5-tuple has nothing of it."""
     options = ["-t", "-o", "idle-timeout=1", "-o", "max-age=2", "-o", "max-connections=2"]
     with turn_server(programs, *options) as server, Peer() as peer:
         before = server.sockets()
@@ -687,11 +692,9 @@ def connections(programs):
             port = client.socket.getsockname()[1]
             client.socket.setsockopt(socket.SOL_SOCKET, socket.SO_LINGER, struct.pack("ii", 1, 0))
         wait_until(lambda: server.sockets() == before, f"sockets are left: {server.sockets()}")
+        wait_until(lambda: server.counts()["turn_ended"] == 2, "the relay of a closed connection lasts")
         with Client(server, stream=True, port=port) as again:
-            again.socket.send(REQUEST + bytes(12))
-            check(is_closed(again.socket), "the 5-tuple of an allocation is taken over")
-        with Client(server, stream=True) as client:
-            client.allocate()
+            exchange(again, peer, again.allocate(), b"anew")
         ended(server)
 
 
