@@ -12,7 +12,7 @@ from common import TOP, Markdown, crates, fail, sources
 # The crates that a user lists, each with what it has.
 PUBLIC = [
     "stun_types", "stun_framing", "stun_transactions", "stun_authentication", "stun_server",
-    "ice_attrs", "turn_attrs", "stun_endpoints", "turn_peers", "turn_slots", "turn_allocations", "turn_server",
+    "ice_attrs", "turn_attrs", "stun_endpoints", "turn_peers", "turn_allocations", "turn_server",
     "discovery_attrs",
     "stun_plain_text",
 ]
