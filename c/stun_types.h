@@ -1309,8 +1309,8 @@ typedef struct {
 /* Makes a server with no allocation. It takes all memory that it ever keeps: some 2,700 bytes for each of
    limits.relays. secret makes the nonces, as in stun_types_make_nonce. The server keeps copies of
    all that it is given.
-   The first of these: BAD_ARGUMENT: a number of the settings, also limits.relays from 2^24 on. NO_KEY: there is no secret. BAD_ARGUMENT:
-   it has fewer than 16 bytes. INVALID_DATA, TOO_LARGE: the realm, and then the software, isn't UTF-8, or
+   The first of these: BAD_ARGUMENT: a number of the settings, also limits.relays from 2^24 on. NO_KEY:
+   there is no secret. BAD_ARGUMENT: it has fewer than 16 bytes. INVALID_DATA, TOO_LARGE: the realm, and then the software, isn't UTF-8, or
    has more than 763 bytes. BAD_ARGUMENT: a family is neither 4 nor 6; a prefix is longer than an address
    of its family, or one of its other bits is 1. Allocates: OUT_OF_MEMORY. If the call fails, the
    server stays as it was. */
@@ -1424,8 +1424,8 @@ typedef struct {
    read nor moved: what comes before it is written at the end of head, which has size bytes, at least
    STUN_TYPES_TURN_HEAD. So receive at buffer + 48, and pass buffer and 48. id: random; the transaction
    ID of a Data indication. The data is dropped if the socket is no live relayed address's, if there is no
-   permission for the peer, if the peer is denied, or if the message is longer than the transport to the client takes: 65,507
-   bytes over UDP and IPv4, 65,527 over UDP and IPv6, and 65,552 on a stream. It allocates nothing.
+   permission for the peer, if the peer is denied, or if the message is longer than the transport to the
+   client takes: 65,507 bytes over UDP and IPv4, 65,527 over UDP and IPv6, and 65,552 on a stream. It allocates nothing.
    BAD_ARGUMENT: there is no server, or a family is neither 4 nor 6. TOO_SMALL: head is shorter. */
 STUN_TYPES_NODISCARD STUN_TYPES_NONNULL((1, 3, 6, 9))
 stun_types_answer stun_types_turn_peer(stun_types_turn *server, uint64_t now,

@@ -234,7 +234,8 @@ static void take_ended(size_t count, size_t portion) {
         size_t i;
         wrote = stun_types_turn_ended(server, numbers, portion, first);
         HOLDS(wrote == (count - first < portion ? count - first : portion));
-        for (i = 0; i < wrote && closed_count < MODEL_TURN_ALLOCATIONS; i++) closed[closed_count++] = numbers[i];
+        for (i = 0; i < wrote && closed_count < MODEL_TURN_ALLOCATIONS; i++)
+            closed[closed_count++] = numbers[i];
         for (; i < portion; i++) HOLDS(is_filled(&numbers[i], sizeof numbers[i]));
         if (wrote == 0) break;
     }
@@ -415,7 +416,8 @@ static void check_ends(source *from) {
         count = stun_types_turn_end(server, now, relay);
     } else if (how % 8 == 2) {
         const unsigned user = which % (MODEL_TURN_USERS + 1);
-        const model_text texts[] = {user < MODEL_TURN_USERS ? model.users[user].name : model.realm, model.realm};
+        const model_text name = user < MODEL_TURN_USERS ? model.users[user].name : model.realm;
+        const model_text texts[] = {name, model.realm};
         stun_types_hash *hash = NEW(stun_types_hash);
         model_digest(STUN_TYPES_PASSWORD_SHA256, texts, 2, hash->bytes);
         model_turn_end_user(&model, now, user);
