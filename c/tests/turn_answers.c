@@ -594,7 +594,7 @@ static size_t count_ended(const uint64_t *relays, size_t count, size_t portion) 
 /* Makes a server, and gets this many relayed addresses for as many clients. */
 static void begin_relays(const char *name, uint64_t *relays, size_t count) {
     turn_making it;
-    size_t i;
+    size_t i, j;
     site_begin_alone(name);
     it = site_making();
     it.settings.limits.of_user = (uint32_t)count;
@@ -604,6 +604,8 @@ static void begin_relays(const char *name, uint64_t *relays, size_t count) {
         site.ready->any_ipv4.port = (uint16_t)(50000 + i);
         CHECK(site_allocate(0, 1) == 0);
         relays[i] = site.action->ipv4.relay;
+        CHECK((relays[i] & 0xFFFFFF) < it.settings.limits.relays);
+        for (j = 0; j < i; j++) CHECK((relays[j] & 0xFFFFFF) != (relays[i] & 0xFFFFFF));
     }
 }
 
