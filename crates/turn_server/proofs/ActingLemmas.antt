@@ -1,6 +1,5 @@
 -- What is done for a datagram.
-use Rattle.std.proofs.Common.{◌≡◌, ◌≤◌, ◌^◌, ◌+◌, ℕ, List, Option, Bool, false, refl, sym, ap, subst, ◌∙◌}
-use Rattle.std.specs.Prelude.{IsSomeAnd}
+use Rattle.std.proofs.Common.{◌≡◌, ℕ, List, Option, false, refl, sym, ap, subst, ◌∙◌}
 use Rattle.stun_base.specs.MessageTypes.{method_of}
 use Rattle.stun_grammar.specs.Headers.{type_field}
 use Rattle.stun_grammar.specs.declared.integrity_algorithm.IntegrityAlgorithm.{IntegrityAlgorithm}
@@ -35,7 +34,7 @@ use Rattle.turn_server.specs.declared.action.Span.{Span}
 use Rattle.turn_server.specs.declared.judged.Asking.{Asking}
 use Rattle.turn_server.specs.declared.judged.Judged.TheVariants.{Dropped as ReadNothing, Binding as ReadBinding, Refused as ReadRefused, Unknown as ReadUnknown, Sent as ReadSent, SentOn as ReadSentOn, Asked as ReadAsked}
 use Rattle.turn_server.specs.declared.sockets.Sockets.{Sockets}
-use Rattle.turn_server.specs.Acting.{Act, data_act, answer_act, opened_in, none_opened}
+use Rattle.turn_server.specs.Acting.{data_act, answer_act, opened_in, none_opened}
 use Rattle.turn_server.specs.Actions.{Does, IsDone, numbers_of}
 use Rattle.turn_server.specs.Judging.{Site, Judged, dropped, binding, refused, unknown, sent, sent_on, asked}
 use Rattle.turn_server.specs.Reporting.{Signs, Tells}

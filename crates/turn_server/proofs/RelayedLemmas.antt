@@ -1,5 +1,5 @@
 -- What goes to a peer is warranted by what came before.
-use Rattle.std.proofs.Common.{◌≡◌, ℕ, Bool, true, false, List, Some, ◌⊎◌, inl, inr, refl, ap, sym, subst, ◌∙◌}
+use Rattle.std.proofs.Common.{◌≡◌, ℕ, Bool, true, false, List, Some, ◌⊎◌, inl, inr, ap, sym, subst, ◌∙◌}
 use Rattle.stun_grammar.specs.declared.integrity_algorithm.IntegrityAlgorithm.{IntegrityAlgorithm}
 use Rattle.stun_authentication.specs.Lookups.{UserKey}
 use Rattle.stun_endpoints.specs.declared.endpoints.Endpoint.{Endpoint}
@@ -11,7 +11,6 @@ use Rattle.turn_machine.specs.Steps.{step}
 use Rattle.turn_machine.specs.Times.{at}
 use Rattle.turn_machine.specs.Warrants.{IsWarranted, ArePermitting, AreBinding, IsRight}
 use Rattle.turn_allocations.specs.declared.families.Families.{Families}
-use Rattle.turn_attrs.specs.Channels.{channel_field}
 use Rattle.turn_server.specs.Acting.{sends_to, data_act, answer_act, acted, act}
 use Rattle.turn_server.specs.Datagrams.{Moment, events_in, past, kept, clock_at, IsRelayed}
 use Rattle.turn_server.specs.Judging.{Site, Judged, dropped, binding, refused, unknown, sent, sent_on, asked, judge}

@@ -1,5 +1,5 @@
 -- What datagrams of strangers do not do.
-use Rattle.std.proofs.Common.{◌≡◌, ℕ, Bool, true, false, List, [], ◌∷◌, refl, sym, ap, subst, ◌∙◌}
+use Rattle.std.proofs.Common.{◌≡◌, ℕ, Bool, true, false, List, [], ◌∷◌, refl, sym, ap, ◌∙◌}
 use Rattle.std.specs.List.{AllByRecursion, list_any}
 use Rattle.std.specs.Prelude.{◌≢◌, ◌||◌}
 use Rattle.stun_endpoints.specs.declared.endpoints.Endpoint.{Endpoint}
@@ -7,7 +7,7 @@ use Rattle.stun_endpoints.specs.declared.endpoints.FiveTuple.{FiveTuple}
 use Rattle.stun_endpoints.specs.Endpoints.{is_tuple}
 use Rattle.turn_machine.specs.Granting.{IsFree}
 use Rattle.turn_machine.specs.Relays.{Relay, Setup, Rules, State}
-use Rattle.turn_machine.specs.Events.{Event, sends, sends_on, Output, nothing}
+use Rattle.turn_machine.specs.Events.{Event, sends, sends_on}
 use Rattle.turn_machine.specs.Steps.{step}
 use Rattle.turn_machine.specs.Strangers.{is_datagram, IsQuiet}
 use Rattle.turn_machine.specs.Times.{at}

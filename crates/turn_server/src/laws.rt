@@ -24,6 +24,9 @@ ghost use Rattle.turn_machine.specs.Times.{at};
 ghost use Rattle.turn_machine.specs.Warrants.{ArePermitting, IsRight};
 ghost use Rattle.turn_machine.specs.Works.{IsDue, Reaches};
 ghost use Rattle.turn_allocations.specs.declared.families.Families.{Families};
+ghost use Rattle.turn_allocations.specs.declared.limits.Limits.{Limits};
+ghost use Rattle.turn_allocations.specs.Calls.{IsAfter};
+ghost use Rattle.turn_allocations.specs.Tables.{Serving};
 ghost use Rattle.turn_server.specs.Acting.{act, stepped, sends_to};
 ghost use Rattle.turn_server.specs.Datagrams.{Moment, events_in, past, kept, clock_at, Came, IsRequest, IsRelayed};
 ghost use Rattle.turn_server.specs.Judging.{Site, dropped, sent, event_of, is_asked, judge};
@@ -31,6 +34,7 @@ ghost use Rattle.turn_server.specs.Judgments.{IsSo, Asks, IsDecided};
 ghost use Rattle.stun_authentication.specs.Answers.{accept};
 
 use stun_authentication::accepted_is_authentic;
+use turn_allocations::calls_are_a_run;
 use turn_machine::{
     clients_are_apart, relaying_is_warranted, strangers_get_little, table_is_bounded,
     what_is_permitted_works,
@@ -65,8 +69,8 @@ pub fn requests_are_authentic()
     accepted_is_authentic();
 }
 
-/// Whatever came in whatever order: what a server keeps is what the machine keeps by the events that the
-/// datagrams were, within its bounds. Data of a client goes to a peer only by a Send indication or a
+/// Whatever came in whatever order: what a server keeps, and what calls that are these events leave, is what
+/// the machine keeps by the events that the datagrams were, within its bounds. Data of a client goes to a peer only by a Send indication or a
 /// ChannelData message, and data of a peer only to the client of the socket that it came to; and only if
 /// the rules in force allow the peer and that is warranted by requests that succeeded before, as
 /// `turn_machine` has it: a user opened the allocation, was granted a lifetime that isn't over, and asked
@@ -75,6 +79,8 @@ pub fn requests_are_authentic()
 pub fn datagrams_are_warranted()
     ensures kept { (setup : Setup) (moments : List Moment)
         → kept setup moments ≡ run setup (events_in setup moments) }
+    ensures calls { (setup : Setup) (limits : Limits) (moments : List Moment) (s : Serving)
+        → IsAfter setup limits (events_in setup moments) s → s.state ≡ kept setup moments }
     ensures relays { (setup : Setup) (moments : List Moment)
         → length (kept setup moments).relays ≤ setup.most_relays }
     ensures within { (setup : Setup) (moments : List Moment)
@@ -94,6 +100,7 @@ pub fn datagrams_are_warranted()
         (request : Request) → SomeOf (λ h. h.event ≡ asks tuple user request) (past setup earlier)
         → Came (IsRequest setup tuple user request) earlier }
 {
+    calls_are_a_run();
     relaying_is_warranted();
     table_is_bounded();
 }

@@ -83,6 +83,9 @@ fn relayed(to: Option<ToPeer>, span: Span) -> Action
 /// No call but [`TurnServer::new`] takes memory that it keeps: a user's key is looked up, and a response
 /// written, with memory that is given back.
 ///
+/// DONT-FRAGMENT isn't comprehended, and ICMP isn't taken, whatever `Limits` says of them. No sockets are
+/// reserved.
+///
 /// # Examples
 ///
 /// From the first request to data both ways, with a socket that is bound to 203.0.113.1:50000.

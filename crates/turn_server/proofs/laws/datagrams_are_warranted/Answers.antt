@@ -1,4 +1,4 @@
-use Rattle.std.proofs.Common.{◌≤◌, sym, subst, length}
+use Rattle.std.proofs.Common.{◌≤◌, sym, subst, length, ◌∙◌}
 use Rattle.std.specs.List.{AllByRecursion}
 use Rattle.turn_machine.specs.Bounds.{IsWithin}
 use Rattle.turn_machine.specs.Relays.{State}
@@ -10,6 +10,9 @@ use Rattle.turn_server.proofs.laws.datagrams_are_warranted.Goals as goal
 
 pub returns-clause-kept : goal.returns-clause-kept
 returns-clause-kept c = kept_is_run
+
+pub returns-clause-calls : goal.returns-clause-calls
+returns-clause-calls c = λ setup limits moments s after. c.calls_are_a_run.ensures.state setup limits (events_in setup moments) s after ∙ sym (kept_is_run setup moments)
 
 pub returns-clause-relays : goal.returns-clause-relays
 returns-clause-relays c = λ setup moments.
