@@ -42,6 +42,10 @@ def optional(message, type_, length=4):
 class Site(Server):
     """A server that is asked by datagrams."""
 
+    def known(self):
+        """The types that it comprehends: DONT-FRAGMENT if it can set the DF bit (RFC 8656, 7.2 and 11.2)."""
+        return KNOWN | {wire.DONT_FRAGMENT} if "dont-fragment" in self.setup.options else KNOWN
+
     def from_client(self, client, octets):
         last = 0x7F if "old-channels" in self.setup.options else 0x4F
         if octets and 0x40 <= octets[0] <= last:
@@ -67,12 +71,12 @@ class Site(Server):
     def send_indication(self, client, message):
         peer = wire.read_xor_address(message.identity, message.get(wire.PEER))
         data = message.get(wire.DATA)
-        if message.unknown(KNOWN) or peer is None or data is None:
+        if message.unknown(self.known()) or peer is None or data is None:
             return self.note("unfit-send", "dropped")
-        return self.send(client, peer, data)
+        return self.send(client, peer, data, message.get(wire.DONT_FRAGMENT) is not None)
 
     def binding(self, message):
-        unknown = message.unknown(KNOWN)
+        unknown = message.unknown(self.known())
         return self.note("binding", f"420:{types(unknown)}:unsigned" if unknown else "ok:mapped:unsigned")
 
     # credentials
@@ -109,22 +113,23 @@ class Site(Server):
         answer, user, sign = self.credentials(message)
         if answer:
             return answer
-        if unknown := message.unknown(KNOWN):
+        if unknown := message.unknown(self.known()):
             return self.note("unknown-types", f"420:{types(unknown)}:{sign}")
         return self.described(client, message, getattr(self, f"on_{method}")(client, user, message), sign)
 
     def described(self, client, message, output, sign):
         kind, *rest = output.split(":")
         if kind == "allocated":
-            family = self.of(client).family
-            partial = ":family-440" if message.get(wire.ADDITIONAL) is not None else ""
-            return f"ok:lifetime-{rest[1]}:relayed{family}-{rest[0]}:mapped{partial}:{sign}"
+            its = sorted(self.of(client), key=lambda it: it.family)
+            given = [f"relayed{it.family}-{it.number}" for it in its]
+            missing = [f"missing{it}" for it in rest[2:]]
+            return ":".join(["ok", f"lifetime-{rest[1]}", *given, "mapped", *missing, sign])
         if kind == "refreshed":
             return f"ok:lifetime-{rest[0]}:{sign}"
         return f"ok:{sign}" if kind in ("permitted", "bound") else f"{kind}:{sign}"
 
     def wish(self, message):
-        """The family of the relayed address, or why there is none (7.2, checks 3 and 5 to 9)."""
+        """What relayed addresses are wanted, or why the octets alone are refused (7.2, checks 3 and 5 to 9)."""
         transport = message.get(wire.TRANSPORT)
         if transport is None or len(transport) != 4:
             return Refusal(400, "transport")
@@ -143,12 +148,11 @@ class Site(Server):
             or any(optional(message, type_, length) is False for type_, length in lengths)
         ):
             return Refusal(400, "conflict")
-        wanted = 4 if family is None else FAMILIES.get(family[0])
-        if wanted is None or wanted == 6 and "ipv4-only" in self.setup.options:
-            return Refusal(440, "family")
-        if pair or token is not None or "no-sockets" in self.setup.options:
-            return Refusal(508, "no-capacity")
-        return wanted
+        wanted = [4] if family is None else [FAMILIES.get(family[0])]
+        if wanted == [None]:
+            return Refusal(440, "unknown-family")
+        has_none = pair or token is not None
+        return [(it, not has_none and self.setup.has_socket(it)) for it in (wanted if more is None else [4, 6])]
 
     def on_allocate(self, client, user, message):
         lifetime = optional(message, wire.LIFETIME) or 0
@@ -182,11 +186,9 @@ class Site(Server):
         if kind != "channel":
             return output
         octets = bytes.fromhex(rest[1]) + len(data).to_bytes(2) + data
-        padding = bytes(-len(data) % 4) if next(it for it in self.live() if it.number == number).tuple.streams else b""
+        padding = bytes(-len(data) % 4) if self.at_socket(number).tuple.streams else b""
         return f"channel-data:{rest[0]}:{(octets + padding).hex()}"
 
 
 def types(numbers):
     return "types-" + "-".join(f"{it:04x}" for it in numbers)
-
-
