@@ -20,8 +20,8 @@ RULES = {
     "unsigned": ":9.2.4", "credentials-missing": ":9.2.4", "credentials-wrong": ":9.2.4",
     "unknown-types": ":6.3.1", "no-allocation": "5", "other-user": "5", "allocate-again": "7.2",
     "allocate-in-use": "7.2", "tunnel": "21.4", "transport": "7.2", "conflict": "7.2",
-    "unknown-family": "7.2", "family": "7.2", "quota": "7.2", "no-room": "7.2", "no-socket-ready": "7.2", "allocated": "7.2",
-    "allocated-both": "7.2", "one-of-two": "18.12", "unfit-refresh": "8.2", "refreshed": "8.2", "ended": "8.2",
+    "unknown-family": "7.2", "family": "7.2", "quota": "7.2", "no-room": "7.2", "no-socket-ready": "7.2",
+    "allocated": "7.2", "allocated-both": "7.2", "one-of-two": "18.12", "unfit-refresh": "8.2", "refreshed": "8.2", "ended": "8.2",
     "unfit-permission": "10.2", "too-many-peers": "10.2", "permission-refused": "10.2", "permitted": "10.2",
     "unfit-channel": "12.2", "channel-taken": "12.2", "channel-refused": "12.2", "bound": "12.2",
     # a datagram of a peer, and ICMP
@@ -147,7 +147,7 @@ class Server:
 
     def __init__(self, setup):
         self.setup, self.now, self.fired, self.denied = setup, Fraction(0), [], frozenset()
-        self.relays, self.opened = [], 0  # those that haven't expired, and how many there were
+        self.relays, self.opened = [], 0  # those that have not expired, and how many there ever were
         self.closed = []  # the numbers of the sockets that this event closes
 
     def note(self, rule, output):
@@ -343,7 +343,7 @@ class Server:
         return self.note("unbound-channel", "dropped")
 
     def arrive(self, number, peer, data):
-        """A peer's datagram at a socket: it needs a permission, also if a channel is bound to the peer (9, 11.3)."""
+        """A peer's datagram: it needs a permission, also if a channel is bound to the peer (9, 11.3)."""
         its = self.at_socket(number)
         if not its:
             return self.note("no-socket", "dropped")
@@ -392,7 +392,7 @@ class Server:
         return self.note("user-ended", None)
 
     def words(self, output):
-        """The words of an event with this output: which sockets are closed follows, of what the caller ends alone."""
+        """The words of an event with this output, or with none; then which sockets are closed."""
         numbers = ",".join(map(str, sorted(self.closed)))
         if output is None:
             return [f"closed:{numbers or '-'}"]

@@ -15,6 +15,7 @@ KEPT = 2.0
 WISHES = {
     "4": [(wire.TRANSPORT, "11000000")], "6": [(wire.TRANSPORT, "11000000"), (wire.FAMILY, "02000000")],
     "442": [(wire.TRANSPORT, "06000000")], "440": [(wire.TRANSPORT, "11000000"), (wire.FAMILY, "03000000")],
+    "46": [(wire.TRANSPORT, "11000000"), (wire.ADDITIONAL, "02000000")],
     "400": [], "508": [(wire.TRANSPORT, "11000000"), (wire.TOKEN, "00" * 8)],
 }
 
@@ -117,8 +118,9 @@ class Session:
             host, port = self.place.client(name)[0].getsockname()[:2]
             mapped = wire.read_xor_address(message.identity, its(wire.MAPPED))
             parts.append("mapped" if mapped == (ipaddress.ip_address(host).packed, port) else f"mapped-{mapped}")
-        if its(wire.FAMILY_ERROR) is not None:
-            parts.append("family-440" if its(wire.FAMILY_ERROR)[2:4] == b"\x04\x28" else "family-error")
+        for value in message.all(wire.FAMILY_ERROR):
+            family = {1: 4, 2: 6}.get(value[0], value[0])
+            parts.append(f"missing{family}-{(value[2] & 7) * 100 + value[3]}")
         if its(wire.UNKNOWN) is not None:
             parts.append("types-" + its(wire.UNKNOWN).hex("-", 2))
         nonce, listed = its(wire.NONCE), its(wire.ALGORITHMS) is not None
@@ -134,10 +136,11 @@ class Session:
         """The word of the file `turn`."""
         if parts[0] != "ok":
             return parts[0]
-        number = [it.split("-")[1] for it in parts if it.startswith("relayed")]
+        number = [",".join(sorted(it.split("-")[1] for it in parts if it.startswith("relayed")))]
         lifetime = [it.split("-")[1] for it in parts if it.startswith("lifetime")]
         name = {3: "allocated", 4: "refreshed", 8: "permitted", 9: "bound"}[message.method]
-        return ":".join([name, *number, *lifetime])
+        missing = [it.removeprefix("missing") for it in parts if it.startswith("missing")]
+        return ":".join([name, *filter(None, number), *lifetime, *missing])
 
     # what is relayed
 
