@@ -21,7 +21,8 @@ RULES = {
     "unknown-types": ":6.3.1", "no-allocation": "5", "other-user": "5", "allocate-again": "7.2",
     "allocate-in-use": "7.2", "tunnel": "21.4", "transport": "7.2", "conflict": "7.2",
     "unknown-family": "7.2", "family": "7.2", "quota": "7.2", "no-room": "7.2", "no-socket-ready": "7.2",
-    "allocated": "7.2", "allocated-both": "7.2", "one-of-two": "18.12", "unfit-refresh": "8.2", "refreshed": "8.2", "ended": "8.2",
+    "allocated": "7.2", "allocated-both": "7.2", "one-of-two": "18.12",
+    "unfit-refresh": "8.2", "refreshed": "8.2", "ended": "8.2",
     "unfit-permission": "10.2", "too-many-peers": "10.2", "permission-refused": "10.2", "permitted": "10.2",
     "unfit-channel": "12.2", "channel-taken": "12.2", "channel-refused": "12.2", "bound": "12.2",
     # a datagram of a peer, and ICMP

@@ -25,7 +25,8 @@ class Trial:
         options = self.pick.sample(OPTIONS, self.pick.choice([0, 1, 2, 3]))
         families = {"ipv4-only", "ipv6-only"} & set(options)
         options = [it for it in dict.fromkeys(options) if len(families) < 2 or it not in families]
-        room, quota, greatest = (self.pick.choice(it) for it in (["1", "2", "3", "8"], ["1", "2", "3"], ["600", "3600"]))
+        choices = ["1", "2", "3", "8"], ["1", "2", "3"], ["600", "3600"]
+        room, quota, greatest = (self.pick.choice(it) for it in choices)
         self.words = ["events", ":".join([room, quota, greatest, *options])]
         for at in range(length):
             self.pause()
