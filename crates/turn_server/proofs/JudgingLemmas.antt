@@ -17,7 +17,9 @@ use Rattle.stun_authentication.specs.Identities.{Who}
 use Rattle.stun_authentication.specs.Lookups.{UserKey}
 use Rattle.turn_attrs.specs.Channels.{channel_field}
 use Rattle.stun_endpoints.specs.declared.endpoints.FiveTuple.{FiveTuple}
-use Rattle.turn_table.specs.Events.{Request as TableRequest, asks}
+use Rattle.turn_machine.specs.Relays.{State}
+use Rattle.turn_machine.specs.Events.{Request as MachineRequest, asks}
+use Rattle.turn_allocations.specs.declared.families.Families.{Families}
 use Rattle.turn_server.specs.ChannelMessages.{is_channel_byte, data_in}
 use Rattle.turn_server.specs.Comprehended.{is_comprehended}
 use Rattle.turn_server.specs.Indications.{sent_by}
@@ -98,19 +100,19 @@ judgment_is_so last_channel site (first ∷ more) =
     either (IsSo site (first ∷ more)) (is_channel_byte last_channel first) (channel_message (first ∷ more)) (message site (first ∷ more))
     (λ _. channel_is_so site (first ∷ more)) (λ _. message_is_so site (first ∷ more))
 
--- only what is accepted becomes a request to the table
-pub asked_is_so : (site : Site) (other tuple : FiveTuple) (relay : ℕ) (d : List ℕ) (user : ℕ) (request : TableRequest) (judged : Judged) → IsSo site d judged → event_of other relay judged ≡ Some (asks tuple user request)
-    → Asks site d user request
-asked_is_so site other tuple relay d user request dropped so e = absurd cc
-asked_is_so site other tuple relay d user request binding so e = absurd cc
-asked_is_so site other tuple relay d user request (refused refusal) so e = absurd cc
-asked_is_so site other tuple relay d user request (unknown key reply_algorithm) so e = absurd cc
-asked_is_so site other tuple relay d user request (sent peer bytes) so e = absurd cc
-asked_is_so site other tuple relay d user request (sent_on channel bytes) so e = absurd cc
-asked_is_so site other tuple relay d user request (asked by wanted key reply_algorithm) so e =
+-- only what is accepted becomes a request
+pub asked_is_so : (site : Site) (other tuple : FiveTuple) (state : State) (numbers : Families ℕ) (d : List ℕ) (user : ℕ) (request : MachineRequest) (judged : Judged) → IsSo site d judged
+    → event_of other state numbers judged ≡ asks tuple user request → Asks site state d user request
+asked_is_so site other tuple state numbers d user request dropped so e = absurd cc
+asked_is_so site other tuple state numbers d user request binding so e = absurd cc
+asked_is_so site other tuple state numbers d user request (refused refusal) so e = absurd cc
+asked_is_so site other tuple state numbers d user request (unknown key reply_algorithm) so e = absurd cc
+asked_is_so site other tuple state numbers d user request (sent peer bytes) so e = absurd cc
+asked_is_so site other tuple state numbers d user request (sent_on channel bytes) so e = absurd cc
+asked_is_so site other tuple state numbers d user request (asked by wanted key reply_algorithm) so e =
     let same_user : by ≡ user = cc in
     record {
-      relay = relay;
+      numbers = numbers;
       wanted = wanted;
       key = key;
       reply_algorithm = reply_algorithm;

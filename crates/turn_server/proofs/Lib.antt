@@ -4,7 +4,8 @@ mod ReportingLemmas
 mod DatagramsLemmas
 mod RelayedLemmas
 mod StrangersLemmas
-mod ActingLemmas
 mod AnswersLemmas
 mod SpansLemmas
 mod AskingLemmas
+mod OpeningLemmas
+mod ActingLemmas

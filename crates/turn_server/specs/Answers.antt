@@ -25,6 +25,7 @@ use Rattle.stun_authentication.specs.Writing.{no_room, sizes, print_steps, signe
 use Rattle.turn_attrs.specs.Turn.{ADDRESS_ERROR_CODE, LIFETIME, XOR_RELAYED_ADDRESS}
 use Rattle.stun_endpoints.specs.declared.endpoints.Endpoint.{Endpoint}
 use Rattle.turn_machine.specs.Events.{Given, Missing, Answer, allocated, refreshed, done, refused}
+use Rattle.turn_allocations.specs.declared.answer.Given.{Given as Shown}
 use Rattle.turn_server.specs.Comprehended.{comprehended}
 use Rattle.stun_endpoints.specs.Conversions.{socket_of}
 
@@ -45,6 +46,10 @@ lifetime_attribute lifetime = canonical LIFETIME (be32 lifetime)
 abbrev pub listed_one : {X : Type 0} → Option X → List X
 listed_one None = []
 listed_one (Some x) = x ∷ []
+
+-- a relayed address that is in an answer, if there is one
+abbrev pub given_attributes : (id : ℕ) → Option Shown → List Attribute
+given_attributes id given = map (λ g. address_attribute XOR_RELAYED_ADDRESS id g.address) (listed_one given)
 
 -- the relayed address of a family
 abbrev pub relayed_of : (id family : ℕ) → List Given → List Attribute

@@ -17,7 +17,7 @@ ghost use Rattle.turn_attrs.specs.Turn.{XOR_RELAYED_ADDRESS, seconds_of};
 ghost use Rattle.turn_allocations.specs.Answers.{answer_of, code_of, given_list, missing_in, missing_list};
 ghost use Rattle.stun_values.specs.ErrorValues.{error_value};
 ghost use Rattle.stun_attributes.specs.DefaultReasons.{default_reason};
-ghost use Rattle.turn_server.specs.Answers.{answer_class, address_attribute, lifetime_attribute, relayed_attributes, listed_one, missing_attribute, allocation_attributes, answer_content, software_attributes, answer_attributes, list_attribute};
+ghost use Rattle.turn_server.specs.Answers.{answer_class, address_attribute, lifetime_attribute, given_attributes, missing_attribute, allocation_attributes, answer_content, software_attributes, answer_attributes, list_attribute};
 
 use std::net::SocketAddr;
 use stun_endpoints::Endpoint;
@@ -166,18 +166,15 @@ fn add_lifetime<B: MessageWrite>(lifetime: u32, write: &mut B) -> Result<(), Stu
     push_lifetime(&Lifetime::new(lifetime), write)
 }
 
-/// Adds an ADDRESS-ERROR-CODE for a family of which a client has no relayed address, if there is a reason.
-fn add_missing<B: MessageWrite>(
+/// Adds an ADDRESS-ERROR-CODE.
+fn add_address_error<B: MessageWrite>(
     family: u8,
-    missing: Option<Refusal>,
+    refusal: Refusal,
     write: &mut B,
 ) -> Result<(), StunWriteError>
     ensures { Lengthens result (B.state write.old) (B.state write.new)
-        (map missing_attribute (missing_in family missing)) }
+        (missing_attribute (record { family = family; code = code_of refusal }) ∷ []) }
 {
-    let Some(refusal) = missing else {
-        return Ok(());
-    };
     let error = error_bytes(refusal);
     let mut value = [0; 34];
     value[..error.len()].copy_from_slice(error);
@@ -189,6 +186,21 @@ fn add_missing<B: MessageWrite>(
     )
 }
 
+/// Adds an ADDRESS-ERROR-CODE for a family of which a client has no relayed address, if there is a reason.
+fn add_missing<B: MessageWrite>(
+    family: u8,
+    missing: Option<Refusal>,
+    write: &mut B,
+) -> Result<(), StunWriteError>
+    ensures { Lengthens result (B.state write.old) (B.state write.new)
+        (map missing_attribute (missing_in family missing)) }
+{
+    match missing {
+        Some(refusal) => add_address_error(family, refusal, write),
+        None => Ok(()),
+    }
+}
+
 /// Adds the XOR-RELAYED-ADDRESS of a family, if there is one.
 fn add_given<B: MessageWrite>(
     given: Option<Given>,
@@ -196,7 +208,7 @@ fn add_given<B: MessageWrite>(
     write: &mut B,
 ) -> Result<(), StunWriteError>
     ensures { Lengthens result (B.state write.old) (B.state write.new)
-        (map (λ g. address_attribute XOR_RELAYED_ADDRESS id g.address) (listed_one given)) }
+        (given_attributes id given) }
 {
     match given {
         Some(given) => add_relayed(given.address, id, write),
@@ -225,7 +237,7 @@ fn add_all_given<B: MessageWrite>(
     write: &mut B,
 ) -> Result<(), StunWriteError>
     ensures { Lengthens result (B.state write.old) (B.state write.new)
-        (relayed_attributes id (given_list given)) }
+        (given_attributes id given.ipv4 ++ given_attributes id given.ipv6) }
 {
     add_given(given.ipv4, id, write)?;
     add_given(given.ipv6, id, write)
@@ -237,7 +249,8 @@ fn add_all_missing<B: MessageWrite>(
     write: &mut B,
 ) -> Result<(), StunWriteError>
     ensures { Lengthens result (B.state write.old) (B.state write.new)
-        (map missing_attribute (missing_list missing)) }
+        (map missing_attribute (missing_in 1 missing.ipv4)
+        ++ map missing_attribute (missing_in 2 missing.ipv6)) }
 {
     add_missing(1, missing.ipv4, write)?;
     add_missing(2, missing.ipv6, write)
@@ -253,7 +266,8 @@ fn add_rest<B: MessageWrite>(
 ) -> Result<(), StunWriteError>
     ensures { Lengthens result (B.state write.old) (B.state write.new)
         (lifetime_attribute lifetime ∷ address_attribute XOR_MAPPED_ADDRESS id client ∷ []
-        ++ map missing_attribute (missing_list missing)) }
+        ++ (map missing_attribute (missing_in 1 missing.ipv4)
+        ++ map missing_attribute (missing_in 2 missing.ipv6))) }
 {
     add_lifetime(lifetime, write)?;
     add_mapped(client, id, write)?;

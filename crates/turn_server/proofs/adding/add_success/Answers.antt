@@ -2,7 +2,7 @@ use Rattle.std.specs.Option.{option_map}
 use Rattle.stun_attributes.specs.Texts.{text_bytes}
 use Rattle.stun_types.specs.Message.{message_bytes}
 use Rattle.stun_authentication.proofs.AddedLemmas.{in_turn, failed}
-use Rattle.turn_table.specs.Outputs.{answer_of}
+use Rattle.turn_allocations.specs.Answers.{answer_of}
 use Rattle.turn_server.specs.Answers.{answer_content, software_attributes}
 use Rattle.turn_server.proofs.adding.add_success.Goals as goal
 

@@ -1,8 +1,8 @@
 use Rattle.std.proofs.Common.{◌≤◌, sym, subst, length}
 use Rattle.std.specs.List.{AllByRecursion}
-use Rattle.turn_table.specs.Allocations.{State}
-use Rattle.turn_table.specs.Warrants.{IsWithin}
-use Rattle.turn_table.specs.Events.{arrives}
+use Rattle.turn_machine.specs.Bounds.{IsWithin}
+use Rattle.turn_machine.specs.Relays.{State}
+use Rattle.turn_machine.specs.Events.{arrives}
 use Rattle.turn_server.specs.Datagrams.{events_in}
 use Rattle.turn_server.proofs.DatagramsLemmas.{kept_is_run, requests_came}
 use Rattle.turn_server.proofs.RelayedLemmas.{right_after, relayed}
@@ -11,19 +11,19 @@ use Rattle.turn_server.proofs.laws.datagrams_are_warranted.Goals as goal
 pub returns-clause-kept : goal.returns-clause-kept
 returns-clause-kept c = kept_is_run
 
-pub returns-clause-allocations : goal.returns-clause-allocations
-returns-clause-allocations c = λ setup moments.
-    subst (λ (s : State). length s.allocations ≤ setup.most_allocations) (sym (kept_is_run setup moments)) (c.table_is_bounded.ensures.allocations setup (events_in setup moments))
+pub returns-clause-relays : goal.returns-clause-relays
+returns-clause-relays c = λ setup moments.
+    subst (λ (s : State). length s.relays ≤ setup.most_relays) (sym (kept_is_run setup moments)) (c.table_is_bounded.ensures.relays setup (events_in setup moments))
 
 pub returns-clause-within : goal.returns-clause-within
 returns-clause-within c = λ setup moments.
-    subst (λ (s : State). AllByRecursion (IsWithin setup) s.allocations) (sym (kept_is_run setup moments)) (c.table_is_bounded.ensures.each setup (events_in setup moments))
+    subst (λ (s : State). AllByRecursion (IsWithin setup) s.relays) (sym (kept_is_run setup moments)) (c.table_is_bounded.ensures.each setup (events_in setup moments))
 
 pub returns-clause-data : goal.returns-clause-data
 returns-clause-data c = relayed c.relaying_is_warranted.ensures
 
 pub returns-clause-back : goal.returns-clause-back
-returns-clause-back c = λ setup earlier now relay peer bytes. right_after c.relaying_is_warranted.ensures setup earlier now (arrives relay peer bytes)
+returns-clause-back c = λ setup rules earlier now number peer bytes. right_after c.relaying_is_warranted.ensures setup rules earlier now (arrives number peer bytes)
 
 pub returns-clause-requests : goal.returns-clause-requests
 returns-clause-requests c = requests_came

@@ -1,0 +1,9 @@
+use Rattle.std.proofs.Common.{subst}
+use Rattle.turn_machine.specs.Events.{ends, nothing}
+use Rattle.turn_allocations.specs.Setups.{setup_of}
+use Rattle.turn_allocations.specs.Tables.{Serving, IsStep}
+use Rattle.turn_server.proofs.server.TurnServer.end.Goals as goal
+
+pub returns : goal.returns
+returns g c = λ rules.
+    subst (λ (old : Serving). IsStep (setup_of old.limits g.row.P g.row.C) rules old c.args.now (ends c.args.number) nothing c.end.new.self) c.self.view_is (c.end.ensures rules)
