@@ -29,9 +29,6 @@ use Rattle.turn_allocations.proofs.OwnLemmas.{Within, any_kept, find_kept, first
 abbrev pub slot_of : Option Place → Option ℕ
 slot_of place = option_map (λ p. p.slot) place
 
-pub in_place_is : (t : Table) (tuple : FiveTuple) (family : ℕ) (place : Place) (it : IsAt t tuple family place) → in_place t (Some place) ≡ Some it.relay
-in_place_is t tuple family place it = it.holds
-
 pub found_is : (t : Table) (tuple : FiveTuple) (family : ℕ) (place : Option Place) → IsFound t tuple family place → Found t.slots tuple family (slot_of place) (in_place t place)
 found_is t tuple family None none = free none
 found_is t tuple family (Some place) it =

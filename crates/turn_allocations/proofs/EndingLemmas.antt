@@ -28,10 +28,6 @@ times_append n (x ∷ xs) ys =
 abbrev of_number : (Relay → Bool) → ℕ → Relay → Bool
 of_number p n a = p a && (a.number == n)
 
-count_if : (b : Bool) (n x m all kept : ℕ) → all ≡ cond b 1 0 + m → kept ≡ m → all ≡ cond b 1 0 + kept
-count_if true n x m all kept is same = omega (arith, is, same)
-count_if false n x m all kept is same = omega (arith, is, same)
-
 times_kept : (p : Relay → Bool) (n : ℕ) (rs : List Relay) → times n (numbers (filter p rs)) ≡ count_by (of_number p n) rs
 times_kept p n [] = refl
 times_kept p n (a ∷ rs) =
@@ -48,12 +44,6 @@ times_kept p n (a ∷ rs) =
 -- each that passes q passes p
 abbrev pub Among : (p q : Relay → Bool) → List Relay → Type 0
 Among p q rs = AllByRecursion (λ a. q a ≡ true → p a ≡ true) rs
-
-left_one : (p q : Bool) → (q ≡ true → p ≡ true) → (not q && not p) ≡ not p
-left_one true true among = refl
-left_one true false among = refl
-left_one false true among = absurd (let no = among refl in cc)
-left_one false false among = refl
 
 filter_twice : (p q : Relay → Bool) (rs : List Relay) → Among p q rs → filter (λ a. not (p a)) (filter (λ a. not (q a)) rs) ≡ filter (λ a. not (p a)) rs
 filter_twice p q [] among = refl
@@ -138,10 +128,6 @@ none_ends p (a ∷ rs) each =
     )
 
 -- ---- One slot's ends
-
-differ : (b : Bool) → b ≡ true → b ≡ false → ⊥
-differ true is also = absurd cc
-differ false is also = absurd cc
 
 pub record EndsOne (slots : List (Option Relay)) (test : Relay → Bool) (slot : ℕ) (r : Relay) : Type 0 where
   pub left : listed (set slots slot None) ≡ filter (λ a. not (test a)) (listed slots)

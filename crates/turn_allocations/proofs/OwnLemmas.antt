@@ -76,11 +76,6 @@ any_two p (Some r) (Some s) = any_put p r s ∙ ap (λ (b : Bool). p r || b) (or
 
 -- ---- Those of a client
 
--- one of each family that the client has
-pub record AreOf (tuple : FiveTuple) (ipv4 ipv6 : Option Relay) : Type 0 where
-  pub first : (r : Relay) → ipv4 ≡ Some r → is_for tuple 1 r ≡ true
-  pub second : (r : Relay) → ipv6 ≡ Some r → is_for tuple 2 r ≡ true
-
 -- at most one passes: which is found
 pub find_two_first : (p : Relay → Bool) (one other : Option Relay) → any_in p other ≡ false → find p (two one other) ≡ option_and_then (λ r. cond (p r) (Some r) None) one
 find_two_first p None None none = refl

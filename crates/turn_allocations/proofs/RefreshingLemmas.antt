@@ -264,15 +264,6 @@ module _ (follows : ListFollowsSlots) (has : ListHasSlots) (t : Table) (tuple : 
 -- ---- What is answered
 
 module _ (setup : Setup) (rules : Rules) (tuple : FiveTuple) (user : ℕ) (family lifetime : Option ℕ) (state : State) where
-  pub refused_own : (code : ℕ) → ((others : Option ℕ) → own_rows tuple user state others ≡ Some code) → serves setup rules tuple user (refresh family lifetime) state ≡ keeping state (answers tuple (refused code))
-  refused_own code own =
-      ap (λ (o : Option ℕ). option_map_or (refuses tuple state) o (fulfils setup tuple user (refresh family lifetime) state)) (own (row (not (has_wanted tuple family state)) 443 None))
-
-  pub refused_family : ((others : Option ℕ) → own_rows tuple user state others ≡ others) → has_wanted tuple family state ≡ false → serves setup rules tuple user (refresh family lifetime) state ≡ keeping state (answers tuple (refused 443))
-  refused_family own lacks =
-      ap (λ (o : Option ℕ). option_map_or (refuses tuple state) o (fulfils setup tuple user (refresh family lifetime) state))
-      (own (row (not (has_wanted tuple family state)) 443 None) ∙ ap (λ (b : Bool). row (not b) 443 None) lacks)
-
   pub fulfilled : ((others : Option ℕ) → own_rows tuple user state others ≡ others) → has_wanted tuple family state ≡ true
       → serves setup rules tuple user (refresh family lifetime) state ≡ refreshes tuple user family (refreshed_for lifetime setup.greatest_lifetime) state
   fulfilled own has_it =

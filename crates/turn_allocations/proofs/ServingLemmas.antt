@@ -19,23 +19,6 @@ use Rattle.turn_allocations.proofs.GrantingLemmas.{served, unchanged}
 
 -- ---- Unfit requests
 
-pub unfit_allocate_is : (setup : Setup) (rules : Rules) (tuple : FiveTuple) (user code : ℕ) (state : State)
-    → serves setup rules tuple user (unfit_allocate code) state ≡ keeping state (answers tuple (refused (cond (has_any tuple state) 437 code)))
-unfit_allocate_is setup rules tuple user code state = by_any (has_any tuple state)
-  where
-    by_any : (b : Bool) → option_map_or (refuses tuple state) (row b 437 (Some code)) (keeping state (answers tuple done)) ≡ keeping state (answers tuple (refused (cond b 437 code)))
-    by_any true = refl
-    by_any false = refl
-
-pub unfit_is : (setup : Setup) (rules : Rules) (tuple : FiveTuple) (user code other : ℕ) (state : State) → own_rows tuple user state (Some code) ≡ Some other
-    → serves setup rules tuple user (unfit code) state ≡ keeping state (answers tuple (refused other))
-unfit_is setup rules tuple user code other state own = ap (λ (o : Option ℕ). option_map_or (refuses tuple state) o (keeping state (answers tuple done))) own
-
-pub refused_so : (setup : Setup) (rules : Rules) (t : Table) (tuple : FiveTuple) (user : ℕ) (request : Request) (code : ℕ) (ended : Numbers) (answer : Answer)
-    → serves setup rules tuple user request (state_of t) ≡ keeping (state_of t) (answers tuple (refused code)) → answer_of answer ≡ refused code → Serves setup rules tuple user request t t ended ended answer
-refused_so setup rules t tuple user request code ended answer is says =
-    served setup rules tuple user request t t ended answer (state_of t) (is ∙ ap (λ a. keeping (state_of t) (answers tuple a)) (sym says)) (unchanged t)
-
 -- ---- The next number
 
 next_of : (tuple : FiveTuple) (state : State) (o : Option ℕ) (s : Step) → s.state.next ≡ state.next → (option_map_or (refuses tuple state) o s).state.next ≡ state.next

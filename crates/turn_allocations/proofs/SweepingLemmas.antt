@@ -54,27 +54,6 @@ module _ (follows : ListFollowsSlots) (has : ListHasSlots) (t : Table) (numbered
       let rest = ap length by_number.left in
       omega (arith, all, one, rest)
 
-  -- all that one test finds
-  pub ends_here : (test : Relay → Bool) → IsOnly t test slot → EndsOne t.slots test slot r
-  ends_here test only =
-      let same : only.0 ≡ r = some_same only.0 r (sym only.1 ∙ holds) in
-      ends_one follows has t.slots test slot r holds (subst (λ (x : Relay). test x ≡ true) same only.2) only.3
-
-  pub is_done : (test : Relay → Bool) → IsOnly t test slot → (new : Table) → new ≡ with_slot slot None t → (before after : Numbers) → after ≡ record before { numbers = before.numbers ++ r.number ∷ [] }
-      → IsDone (closing test nothing (state_of t)) t new before after
-  is_done test only new is before after also =
-      let it = ends_here test only in
-      record {
-        becomes = record {
-          state_is = ap state_of is ∙ ap (λ (rs : List Relay). record { clock = t.clock; next = t.next; relays = rs }) it.left;
-          slots = ap (λ (x : Table). length x.slots) is ∙ length-set t.slots slot None;
-        };
-        closes = record {
-          room = ap (λ (n : Numbers). n.room) also;
-          numbers = λ n. ap (λ (x : Numbers). times n x.numbers) also ∙ ap (λ (ns : List ℕ). times n (before.numbers ++ ns)) (sym it.closes);
-        };
-      }
-
   -- there is room for its number, and as much afterwards
   pub has_place : (before : Numbers) → length before.numbers + length (listed t.slots) ≤ before.room → length before.numbers < before.room
   has_place before room = let less = fewer in omega (arith, room, less)
@@ -219,11 +198,6 @@ expired_left clock t new same before after done =
     )
 
 -- ---- What is left is sound
-
-pub sound_left : (test : Relay → Bool) (old new : Table) → Becomes old new (record (state_of old) { relays = filter test (state_of old).relays }) → AreSound old → AreSound new
-sound_left test old new becomes sound =
-    subst (λ (s : State). AllByRecursion (λ r. is_sound s.clock r ≡ true) s.relays) (sym becomes.state_is)
-    (each_left (λ r. is_sound old.clock r ≡ true) test (listed old.slots) sound)
 
 -- a later clock: what was sound is
 pub sound_later : (t new : Table) (clock : ℕ) → new ≡ record t { clock = clock } → t.clock ≤ clock → AreSound t → AreSound new

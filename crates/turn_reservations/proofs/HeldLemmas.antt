@@ -30,24 +30,6 @@ module _ {X Y : Type 0} (f : X → Y) (p : Y → Bool) where
 abbrev pub told : (now : ℕ) → List Reserved → List ℕ
 told now xs = map (λ r. r.token) (filter (λ r. not (nat_lt now r.until)) xs)
 
-told_more : (now : ℕ) (xs : List Reserved) (i : ℕ) (d : Reserved) → i < length xs
-    → told now (take (i + 1) xs) ≡ told now (take i xs) ++ map (λ (r : Reserved). r.token) (cond (not (nat_lt now (get_or xs i d).until)) (get_or xs i d ∷ []) [])
-told_more now xs i d within =
-    ap (map (λ (r : Reserved). r.token)) (filter_more (λ (r : Reserved). not (nat_lt now r.until)) xs i d within)
-    ∙ map-append (λ (r : Reserved). r.token) (filter (λ r. not (nat_lt now r.until)) (take i xs)) (cond (not (nat_lt now (get_or xs i d).until)) (get_or xs i d ∷ []) [])
-
--- one more that has expired, or hasn't
-pub told_over : (now : ℕ) (xs : List Reserved) (i : ℕ) (d : Reserved) → i < length xs → nat_lt now (get_or xs i d).until ≡ false
-    → told now (take (i + 1) xs) ≡ told now (take i xs) ++ (get_or xs i d).token ∷ []
-told_over now xs i d within is =
-    told_more now xs i d within ∙ ap (λ (b : Bool). told now (take i xs) ++ map (λ (r : Reserved). r.token) (cond (not b) (get_or xs i d ∷ []) [])) is
-
-pub told_held : (now : ℕ) (xs : List Reserved) (i : ℕ) (d : Reserved) → i < length xs → nat_lt now (get_or xs i d).until ≡ true
-    → told now (take (i + 1) xs) ≡ told now (take i xs)
-told_held now xs i d within is =
-    told_more now xs i d within ∙ (ap (λ (b : Bool). told now (take i xs) ++ map (λ (r : Reserved). r.token) (cond (not b) (get_or xs i d ∷ []) [])) is
-    ∙ append-nil (told now (take i xs)))
-
 tokens_mapped : (xs : List Reserved) → map (λ (r : Reservation). r.token) (map reservation_of xs) ≡ map (λ (r : Reserved). r.token) xs
 tokens_mapped [] = refl
 tokens_mapped (x ∷ xs) = ap (λ (ts : List ℕ). x.token ∷ ts) (tokens_mapped xs)

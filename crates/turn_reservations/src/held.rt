@@ -89,7 +89,7 @@ fn leave(reserved: &mut Vec<Reserved>, now: u128)
 }
 
 /// Leaves those with other tokens.
-fn forget(reserved: &mut Vec<Reserved>, token: u64)
+fn leave_others(reserved: &mut Vec<Reserved>, token: u64)
     ensures items { reserved.new.items ≡ filter (λ r. not (r.token == token)) reserved.old.items }
     ensures fewer { vec_len reserved.new ≤ vec_len reserved.old }
     ensures capacity { vec_capacity reserved.new ≡ vec_capacity reserved.old }
@@ -166,7 +166,7 @@ impl Held {
           held = filter (λ r. not (is_token token r)) self.old.held;
         } }
     {
-        forget(&mut self.reserved, token);
+        leave_others(&mut self.reserved, token);
     }
 
     /// Inserts one, as the newest.
