@@ -12,7 +12,8 @@ from common import TOP, Markdown, crates, fail, sources
 # The crates that a user lists, each with what it has.
 PUBLIC = [
     "stun_types", "stun_framing", "stun_transactions", "stun_authentication", "stun_server",
-    "ice_attrs", "turn_attrs", "stun_endpoints", "turn_peers", "turn_table", "turn_server", "discovery_attrs",
+    "ice_attrs", "ice_candidates", "ice_checks", "ice_agent", "turn_attrs", "turn_requests", "turn_client", "turn_client_state", "turn_client_messages", "stun_endpoints", "turn_peers", "turn_allocations", "turn_server",
+    "discovery_attrs",
     "stun_plain_text",
 ]
 DOC = re.compile(r"\s*//[/!](?: (.*)|)$")
@@ -215,6 +216,8 @@ def exports(crate):
     found, waiting = {}, [(TOP / "crates" / crate / "src/lib.rt", "")]
     for file, module in waiting:
         text = re.sub(r"^\s*//.*$", "", file.read_text(), flags=re.M)
+        # (what is hidden is public for the other crates of the repository alone)
+        text = text.replace("#[doc(hidden)]\npub ", "")
         names = [(it, "", crate) for it in re.findall(r"^#\[macro_export\]\nmacro_rules! (\w+)", text, re.M)]
         # (a private module exports its macros alone)
         uses = re.findall(r"^pub use ([\w:]+?)::(\w+|\{[^}]*\});", text, re.M) if module is not None else []

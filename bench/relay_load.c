@@ -20,8 +20,11 @@
  *     allocate  allocations, permissions and channels; the first request has no credentials
  *     relay     datagrams from the clients by way of the server to the peers, which send each back
  *     refresh   each allocation, permission and channel
+ *     open      allocations alone, each by a request without credentials and one with them
+ *     renew, permit, bind   each allocation, permission or channel alone
  *     release   each allocation, by a lifetime of 0
- *     flood     Allocate requests without credentials, DATAGRAMS of each client, without waiting
+ *     flood     Allocate requests without credentials, DATAGRAMS of each client, without waiting for
+ *               responses; it pauses while the server's socket has more than it reads in a moment
  *
  * A datagram has the numbers of its client and its own, the time, and octets that follow from them. It
  * counts if it is whole, comes from where it has to, and comes for the first time, at the peer and back
@@ -60,7 +63,8 @@ enum {
     REQUESTS = 64,        /* under way at most */
     TRIES = 8,            /* of a request */
     PATIENCE = 500,       /* milliseconds, of a client that waits for datagrams or a response */
-    LAST_PATIENCE = 2000, /* after the last datagram */
+    LAST_PATIENCE = 10000, /* after the last datagram */
+    MOST_QUEUED = 1 << 20, /* octets of the server's socket that a flood adds to */
     DELAYS = 1 << 20,     /* that are kept */
     FIRST_CHANNEL = 0x4000,
     CHANNELS = 0x1000
@@ -115,6 +119,7 @@ static size_t realm_length;
 static uint8_t pattern[256 + MOST_DATA];
 static int poller;
 static uint64_t back, wrong, repeated, failures, repeats;
+static bool goes_on; /* whether requests follow those that the command begins with */
 static unsigned refusal; /* the first error code that ended a client's requests */
 static uint64_t under_way, last_heard;
 static uint32_t delays[DELAYS];
@@ -445,8 +450,8 @@ static void take_success(client *of, const uint8_t *bytes, size_t length) {
     request next = NO_REQUEST;
     bool right = is_signed(bytes, length);
     if (of->asks == ALLOCATE) right = right && keep_relayed(of, bytes, length);
-    if (of->asks == ALLOCATE || of->asks == REFRESH) next = PERMIT;
-    if (of->asks == PERMIT && asked.channels) next = BIND;
+    if (goes_on && (of->asks == ALLOCATE || of->asks == REFRESH)) next = PERMIT;
+    if (goes_on && of->asks == PERMIT && asked.channels) next = BIND;
     if (right) ask(of, next);
     else fail(of, 0);
 }
@@ -670,6 +675,12 @@ static void transact(const char *name, request first) {
            (double)(nanoseconds() - began) / 1e9);
 }
 
+/* Has all clients allocate, as though they had never asked. */
+static void open_allocations(const char *name) {
+    for (client *of = clients; of < clients + asked.allocations; of++) of->nonce_length = 0;
+    transact(name, ALLOCATE);
+}
+
 /* Lets clients that hear nothing send on. Returns whether one may still hear something. */
 static bool push_on(uint64_t now) {
     bool busy = false;
@@ -752,11 +763,25 @@ static uint64_t count_challenges(client *of) {
     return found;
 }
 
+/* The octets that wait in the server's socket, if it has one for IPv4 alone. */
+static unsigned long queued(void) {
+    char line[256];
+    unsigned long found = 0, queue;
+    unsigned port;
+    FILE *from = fopen("/proc/net/udp", "r");
+    while (from != NULL && fgets(line, sizeof line, from) != NULL) {
+        bool is_read = sscanf(line, " %*u: %*x:%x %*x:%*x %*x %*x:%lx", &port, &queue) == 2;
+        if (is_read && port == ntohs(asked.server.sin_port)) found += queue;
+    }
+    if (from != NULL) fclose(from);
+    return found;
+}
+
 static void flood(void) {
     uint64_t began = nanoseconds(), sent = 0, answered = 0;
     uint64_t interval = (uint64_t)asked.interval * 1000;
     for (int round = 0; round < asked.datagrams; round += asked.window) {
-        while (nanoseconds() - began < (uint64_t)round * interval) usleep(100);
+        while (nanoseconds() - began < (uint64_t)round * interval || queued() > MOST_QUEUED) usleep(100);
         for (client *from = clients; from < clients + asked.allocations; from++) {
             answered += count_challenges(from);
             for (int i = 0; i < asked.window; i++) {
@@ -786,8 +811,13 @@ static bool obey(void) {
     while (fgets(line, sizeof line, stdin) != NULL) {
         failures = 0;
         line[strcspn(line, "\n")] = 0;
+        goes_on = strcmp(line, "allocate") == 0 || strcmp(line, "refresh") == 0;
         if (strcmp(line, "allocate") == 0) transact(line, ALLOCATE);
         else if (strcmp(line, "refresh") == 0) transact(line, REFRESH);
+        else if (strcmp(line, "open") == 0) open_allocations(line);
+        else if (strcmp(line, "renew") == 0) transact(line, REFRESH);
+        else if (strcmp(line, "permit") == 0) transact(line, PERMIT);
+        else if (strcmp(line, "bind") == 0) transact(line, BIND);
         else if (strcmp(line, "release") == 0) transact(line, RELEASE);
         else if (strcmp(line, "relay") == 0) relay();
         else if (strcmp(line, "flood") == 0) flood();

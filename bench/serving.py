@@ -15,21 +15,27 @@ REQUEST = bytes.fromhex("000100002112A442") + b"bench/server"  # a binding reque
 COTURN_QUIET = ["--no-tls", "--no-dtls", "--no-cli", "--log-file", "/dev/null", "--no-stdout-log"]
 
 
+def compile_to(program, *files):
+    command = ["gcc", "-O2", "-std=c11", "-I", TOP / "c", *files, "-o", program]
+    subprocess.run([str(it) for it in command], check=True)
+
+
 def build(folder, archive, load):
-    """Compiles the server to folder/server, and a load of this folder to folder/load."""
+    """Makes the library folder/libstun_types.a, the server folder/server, and of a load here folder/load."""
     library = folder / "libstun_types.a"
     subprocess.run([TOP / "c/library.py", library, archive], check=True)
-    how = ["gcc", "-O2", "-I", str(TOP / "c")]
-    server = [*map(str, sorted((TOP / "c/server").glob("*.c"))), str(library)]
-    subprocess.run([*how, "-std=c11", *server, "-o", str(folder / "server")], check=True)
-    subprocess.run([*how, "-std=c11", str(HERE / load), "-o", str(folder / "load")], check=True)
+    compile_to(folder / "server", *sorted((TOP / "c/server").glob("*.c")), library)
+    compile_to(folder / "load", HERE / load)
 
 
-def free_port(address):
+def free_port(address, ports=(0,)):
+    """The first of some ports that is free at an address over UDP; by default any."""
     family = socket.AF_INET6 if ":" in address else socket.AF_INET
-    with socket.socket(family, socket.SOCK_DGRAM) as probe:
-        probe.bind((address, 0))
-        return str(probe.getsockname()[1])
+    for port in ports:
+        with socket.socket(family, socket.SOCK_DGRAM) as probe, contextlib.suppress(OSError):
+            probe.bind((address, port))
+            return str(probe.getsockname()[1])
+    raise OSError(f"no port is free at {address}")
 
 
 def answers(address, port, stream):
@@ -57,13 +63,13 @@ def wait_until_it_answers(address, port, stream):
 def processes_of(process):
     """The numbers of a process and of those that it started, with the fields of their states from the third
     on."""
-    for path in pathlib.Path("/proc").glob("[0-9]*/stat"):
+    for number in filter(str.isdigit, os.listdir("/proc")):
         try:
-            fields = path.read_text().rpartition(")")[2].split()
+            fields = pathlib.Path(f"/proc/{number}/stat").read_text().rpartition(")")[2].split()
         except OSError:
-            continue
-        if process in (int(path.parent.name), int(fields[1])):
-            yield int(path.parent.name), fields
+            continue  # it has ended meanwhile
+        if process in (int(number), int(fields[1])):
+            yield int(number), fields
 
 
 def processor_time(process):

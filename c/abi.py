@@ -63,13 +63,21 @@ TYPES = {
     "stream": "CStream",
     "channel_data": "CChannelMessage",
     "turn": "CTurn",
+    "turn_limits": "CTurnLimits",
     "turn_settings": "CTurnSettings",
     "prefix": "CPrefix",
     "five_tuple": "CFiveTuple",
     "turn_ready": "CTurnReady",
     "turn_datagram": "CTurnDatagram",
+    "turn_opened": "COpened",
     "turn_action": "CTurnAction",
     "turn_delivery": "CDelivery",
+    "allocation": "CAllocation",
+    "allocation_settings": "CAllocationSettings",
+    "allocation_data": "CAllocationData",
+    "allocation_head": "CAllocationHead",
+    "allocation_change": "CAllocationChange",
+    "allocation_attempt": "CAttempt",
 }
 # Fields that have another name in Rattle.
 NAMES = {"type": ("atype", "mtype"), "message_class": ("class",), "at": ("place",)}
@@ -241,7 +249,7 @@ def declared():
 def in_c(kind):
     """What a type of Rattle may be in C: the types of one field, or of two, for each."""
     names = {of: name for name, of in TYPES.items()}
-    if kind in ("KeyPlace", "TurnPlace"):
+    if kind in ("KeyPlace", "TurnPlace", "AllocationPlace"):
         return [("*void",)]
     many = re.fullmatch(r"&'a \[(\w+)\]", kind)
     if many:
@@ -249,7 +257,7 @@ def in_c(kind):
         return [(f"*const {it}", "u64") for it in of]
     array = re.fullmatch(r"\[(\w+); (\d+)\]", kind)
     if array:
-        return [(f"{array[1]}[{array[2]}]",)]
+        return [(f"{names.get(array[1], array[1])}[{array[2]}]",)]
     if kind in names:
         return [(names[kind],)]
     return [({"usize": "u64"}.get(kind, kind),)]
@@ -383,7 +391,7 @@ REFUSED = {
         "stun_types_add_u16(uint8_t *room, size_t size, size_t *written, uint16_t type,",
         "stun_types_add_u16(uint8_t *room, size_t size, size_t *written, uint32_t type,",
     ),
-    "a field made signed": ("    uint32_t last_wait;", "    int32_t last_wait;"),
+    "a field made signed": ("    uint32_t last_wait;     /*", "    int32_t last_wait;     /*"),
     "the value of a macro changed": (
         "#define STUN_TYPES_GREATEST_MESSAGE 65552",
         "#define STUN_TYPES_GREATEST_MESSAGE 65556",
@@ -396,13 +404,13 @@ REFUSED = {
         "stun_types_message_type(stun_types_class message_class, stun_types_method method)",
         "stun_types_message_type(stun_types_method method, stun_types_class message_class)",
     ),
-    "an enumerator renumbered": ("STUN_TYPES_SIGNED = 18", "STUN_TYPES_SIGNED = 26"),
+    "an enumerator renumbered": ("STUN_TYPES_SIGNED = 18", "STUN_TYPES_SIGNED = 99"),
     "an enumerator renamed": ("STUN_TYPES_DISCARDED = 3", "STUN_TYPES_IGNORED = 3"),
     "a field moved": (
         "    uint16_t port;      /* the machine's number */\n    uint16_t family;    /* 4 or 6 */\n",
         "    uint16_t family;    /* 4 or 6 */\n    uint16_t port;      /* the machine's number */\n",
     ),
-    "a field added": ("    uint16_t length;\n} stun_types_prefix;", "    uint16_t length, more;\n} stun_types_prefix;"),
+    "a field added": ("    uint16_t first_port, last_port;\n} stun_types_prefix;", "    uint16_t first_port, last_port, more;\n} stun_types_prefix;"),
     "the result of a call changed": (
         "uint16_t stun_types_message_type(",
         "uint32_t stun_types_message_type(",

@@ -37,7 +37,7 @@ static void (*const subjects[])(source *from)
     = {check_any,         check_changed,    check_changed,      check_changed,     check_writing,
        check_writing,     check_stream,     check_channel_data, check_numbers,     check_keys,
        check_credentials, check_challenges, check_nonces,       check_transactions,
-       check_turn,        check_turn,       check_turn};
+       check_turn,        check_turn,       check_turn,        check_allocations};
 
 int LLVMFuzzerTestOneInput(const uint8_t *data, size_t size) {
     source from;

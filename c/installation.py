@@ -1,4 +1,4 @@
-"""What c/run_installed and its checks of a release share: what is installed, and how it is used."""
+"""What c/run_installed, its checks of a release and c/run_packages share: what is installed, and how it is used."""
 import contextlib
 import hashlib
 import hmac
@@ -15,6 +15,16 @@ DOCUMENTS = ("share/doc/stun_types/LICENSE-APACHE", "share/doc/stun_types/LICENS
 # What c/install --programs writes.
 PROGRAMS = sorted([*(f"{folder}{name}{end}" for name in ("stun-client", "stun-turn-client")
                      for folder, end in (("bin/", ""), ("share/man/man1/", ".1"))), *DOCUMENTS])
+# A project for CMake that links the example messages.c with each library.
+CMAKE = """\
+cmake_minimum_required(VERSION 3.13)
+project(app C)
+find_package(stun_types @VERSION@ REQUIRED)
+foreach(kind static shared)
+    add_executable(by_${kind} messages.c)
+    target_link_libraries(by_${kind} stun_types::${kind})
+endforeach()
+"""
 
 
 @contextlib.contextmanager

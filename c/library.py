@@ -33,6 +33,9 @@ VERDICTS = {
     "nonce_state",
     "turn_action",
     "turn_delivery",
+    "allocation_data",
+    "allocation_head",
+    "allocation_change",
 }
 ZEROS = {
     ("stun_types_transaction_begin", "transaction"),
@@ -40,7 +43,7 @@ ZEROS = {
 }
 # What it returns. A call that counts what it wrote wrote nothing.
 REFUSED = {"bool": "false", "size_t": "SIZE_MAX", "stun_types_answer": "refused"}
-REFUSED_BY = {"stun_types_turn_poll": "0"}
+REFUSED_BY = {"stun_types_turn_ended": "0", "stun_types_turn_end_user": "0"}
 BEGINS = """\
 /* (written by c/library.py) */
 #include <stdbool.h>

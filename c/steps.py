@@ -94,6 +94,34 @@ def has_sanitizers(compiler, folder):
     return run([compiler, *map(str, words)], 60)[0] == 0
 
 
+# A clock that runs SPEED times as fast, for what waits by poll.
+FAST_CLOCK = """
+#include <poll.h>
+#include <stdint.h>
+#include <time.h>
+int __real_clock_gettime(clockid_t, struct timespec *);
+int __wrap_clock_gettime(clockid_t, struct timespec *);
+int __wrap_clock_gettime(clockid_t clock, struct timespec *now) {
+    int error = __real_clock_gettime(clock, now);
+    uint64_t all = ((uint64_t)now->tv_sec * 1000000000 + (uint64_t)now->tv_nsec) * SPEED;
+    now->tv_sec = (time_t)(all / 1000000000);
+    now->tv_nsec = (long)(all % 1000000000);
+    return error;
+}
+int __real_poll(struct pollfd *, nfds_t, int);
+int __wrap_poll(struct pollfd *, nfds_t, int);
+int __wrap_poll(struct pollfd *files, nfds_t count, int wait) {
+    return __real_poll(files, count, wait < 0 ? wait : (wait + SPEED - 1) / SPEED);
+}
+"""
+
+
+def fast_clock(folder, speed):
+    """What a program is built with so that its clock runs faster."""
+    (folder / "fast.c").write_text(FAST_CLOCK)
+    return [f"-DSPEED={speed}", folder / "fast.c", "-Wl,--wrap=clock_gettime,--wrap=poll"]
+
+
 def client_sources(name):
     """The sources of a program of c/programs."""
     return [HERE / f"programs/{it}.c" for it in ("options", "connection", "requests", name)]

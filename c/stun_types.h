@@ -2,15 +2,15 @@
  *
  * - A slice is a pointer and its length in bytes, or its count of elements: two parameters, or two
  *   fields of a struct that is passed in. A slice of length 0 may be NULL. Every other pointer is valid
- *   and not NULL, but for those of stun_types_key_free and stun_types_turn_free. Messages are uint8_t; a
- *   text or a value that is passed in may be char or uint8_t (const void *).
+ *   and not NULL, but for those of stun_types_key_free, stun_types_turn_free and stun_types_allocation_free.
+ *   Messages are uint8_t; a text or a value that is passed in may be char or uint8_t (const void *).
  * - What a call writes, a slice or a struct, overlaps no other argument of it, nor a slice in a struct
  *   that is passed in. A call compares the addresses before all else: if it would write what overlaps
  *   another argument, it returns BAD_ARGUMENT, or false, or, if it counts, SIZE_MAX;
- *   stun_types_turn_poll, whose count never exceeds its room, returns 0.
+ *   stun_types_turn_ended and stun_types_turn_end_user return 0.
  * - No call keeps a pointer, prints, blocks or aborts. Only the calls whose comments say so
  *   allocate (by malloc), and at most twice the bytes of their arguments and 1,024 more at once;
- *   stun_types_turn_new allocates more. All may run in several threads at once. One key may be used
+ *   stun_types_turn_new and stun_types_allocation_new allocate more. All may run in several threads at once. One key may be used
  *   by any number of calls at once that take it as const stun_types_key *; a call that takes it as
  *   stun_types_key * makes or frees it, and has it alone.
  * - Numbers in messages are big-endian; numbers in these structs are the machine's.
@@ -18,14 +18,16 @@
  *   else, unless its comment says otherwise. If several codes apply, the answer has the one that the
  *   comment lists first; OUT_OF_MEMORY may come before the last of them.
  * - No zero permits anything. A verdict is a struct of type stun_types_validated,
- *   stun_types_authentication, stun_types_action, stun_types_received, stun_types_turn_action or
- *   stun_types_turn_delivery: a call that fails fills it with zeros, which say that nothing is
+ *   stun_types_authentication, stun_types_action, stun_types_received, stun_types_turn_action,
+ *   stun_types_turn_delivery, stun_types_allocation_data, stun_types_allocation_head or
+ *   stun_types_allocation_change: a call that fails fills it with zeros, which say that nothing is
  *   decided or done; of stun_types_turn_client see there. stun_types_transaction_begin zeroes its
  *   transaction likewise, and the two calls that report a stun_types_covered zero it. A
  *   stun_types_policy of zeros lets both algorithms count, as RFC 8489 does. If an argument of an
  *   enumeration has no meaning for 0, 0 is BAD_ARGUMENT.
  * - A password or a key of no bytes is BAD_ARGUMENT: anybody can sign with it.
- * - Arguments are tested. Only a key and a TURN server have to be what the library made (see Keys).
+ * - Arguments are tested. Only a key, a TURN server and a TURN client have to be what the library made (see
+ *   Keys).
  * - The layout of the structs is part of the ABI. `reserved` is for fields of later versions: it is 0
  *   in what is passed in, or the call returns BAD_ARGUMENT, and 0 in what a call writes. So begin a
  *   struct that is passed in with zeros (memset, or { 0 }), and set its fields by name.
@@ -97,7 +99,9 @@ typedef STUN_TYPES_ENUM(stun_types_status) {
     STUN_TYPES_INCOMPLETE = 21,          /* REALM or NONCE is missing */
     STUN_TYPES_NO_ALGORITHM = 22,        /* no password algorithm is supported by both */
     STUN_TYPES_SAME_CREDENTIALS = 23,    /* the credentials were refused already */
-    STUN_TYPES_HMAC_TOO_SHORT = 24       /* expected, actual: bytes of an HMAC that is right, and cut */
+    STUN_TYPES_HMAC_TOO_SHORT = 24,      /* expected, actual: bytes of an HMAC that is right, and cut */
+    STUN_TYPES_FULL = 25,                /* there is no room for another one */
+    STUN_TYPES_OTHER_FAMILY = 26         /* the address is of another family than the relayed address */
 } stun_types_status;
 
 typedef struct {
@@ -143,6 +147,8 @@ static inline const char *stun_types_status_text(uint32_t code) {
     case STUN_TYPES_NO_ALGORITHM: return "no password algorithm is supported";
     case STUN_TYPES_SAME_CREDENTIALS: return "the credentials were refused already";
     case STUN_TYPES_HMAC_TOO_SHORT: return "the HMAC is cut to too few bytes";
+    case STUN_TYPES_FULL: return "there is no room";
+    case STUN_TYPES_OTHER_FAMILY: return "the address is of another family";
     default: return "unknown code";
     }
 }
@@ -1226,8 +1232,9 @@ stun_types_answer stun_types_write_channel_data(uint16_t channel, const void *da
 
 /* ---- A TURN server (RFC 8656) ------------------------------------------------------------------ */
 
-/* A TURN server without sockets and without a clock, on the heap: its allocations, with their
-   permissions and channels, at most 16 of each. It begins as STUN_TYPES_TURN_INIT, is made by
+/* A TURN server without sockets and without a clock, on the heap: its allocations, each with one relayed
+   address or one of each family, and each relayed address with at most 16 permissions and 16 channels. It
+   begins as STUN_TYPES_TURN_INIT, is made by
    stun_types_turn_new, which frees what it held before, and ended by stun_types_turn_free. C neither
    reads nor writes nor copies its fields; whether a struct holds a server is seen as with a key. Each
    call has it alone: one server for each thread, or a lock. */
@@ -1242,27 +1249,52 @@ typedef struct {
 STUN_TYPES_NODISCARD
 stun_types_turn stun_types_turn_none(void);
 
-/* Addresses whose first length bits are those of this one. All its other bits are 0, also those of the
-   octets after the four of IPv4, and its port is ignored. A length of 0: all addresses of the family. */
+/* Addresses whose first length bits are those of this one, with the ports from first_port to last_port. All
+   other bits of the address are 0, also those of the octets after the four of IPv4, and its port is ignored.
+   A length of 0: all addresses of the family. A last_port of 0, with a first_port of 0: all ports. */
 typedef struct {
     stun_types_address address;
     uint16_t length;
+    uint16_t first_port, last_port;
 } stun_types_prefix;
+
+/* The bounds of a server, and what it can do. All zeros: it refuses each Allocate request. */
+typedef struct {
+    uint32_t relays;            /* the most relayed addresses, below 2^24: an Allocate request beyond it is
+                                   refused with 508 */
+    uint32_t relays_per_user;   /* the most relayed addresses of one user (486). An allocation with an
+                                   address of each family counts as two */
+    uint32_t reservations;      /* the most sockets that are reserved for the R bit of EVEN-PORT. The calls
+                                   of this header reserve none: such a request is refused with 508 */
+    uint32_t greatest_lifetime; /* seconds; below 600, as 0, it counts as 600 */
+    uint16_t ipv4, ipv6;        /* not 0: the server relays the family. A request for another one is refused
+                                   with 440, and if a socket of the family isn't ready with 508 */
+    uint16_t dont_fragment;     /* not 0: the program can set the DF bit of what it sends to peers */
+    uint16_t icmp;              /* not 0: ICMP packets are relayed. No call of this header takes one */
+    uint16_t channel_permits;   /* not 0: the permission that a ChannelBind request installs lasts as long
+                                   as the channel, 600 seconds. By RFC 8656 it lasts 300, but some clients
+                                   refresh only their channels */
+    uint16_t old_channels;      /* not 0: channels 0x5000 to 0x7FFF are allowed too (RFC 5766) */
+} stun_types_turn_limits;
+
+/* 4,096 relayed addresses of either family, at most 64 of one user, for at most an hour, and the rules of
+   RFC 8656, without DONT-FRAGMENT and ICMP. */
+#define STUN_TYPES_TURN_LIMITS { 4096, 64, 64, 3600, 1, 1, 0, 0, 0, 0 }
+
+/* STUN_TYPES_TURN_LIMITS, for languages that read no macros. */
+STUN_TYPES_NODISCARD
+stun_types_turn_limits stun_types_turn_limits_default(void);
 
 /* What a server is made by. All zeros make one that refuses each Allocate request. */
 typedef struct {
     uint64_t window;            /* for how many seconds a nonce is valid; 0: in its own second alone */
-    uint64_t seed[2];           /* random: it keys the hash of 5-tuples. With zeros clients can choose
-                                   5-tuples whose hashes collide */
+    uint64_t seed[2];           /* random: it keys the hashes of clients and users. With zeros clients can
+                                   choose addresses whose hashes collide */
     stun_types_policy policy;   /* which requests are taken, and which integrity attributes count */
-    uint32_t allocations;       /* at most; one that has ended counts until a poll reports it */
-    uint32_t of_user;           /* the most live allocations of one user */
-    uint32_t greatest_lifetime; /* seconds; below 600, as 0, it counts as 600 */
+    stun_types_turn_limits limits;
     uint32_t features;          /* as in stun_types_make_nonce; 0: none. With
                                    STUN_TYPES_FEATURE_PASSWORD_ALGORITHMS a 401 offers SHA-256 and
                                    then MD5 */
-    uint32_t channel_permits;   /* not 0: a channel permits its exact peer as long as it lasts */
-    uint32_t old_channels;      /* not 0: channels 0x5000 to 0x7FFF are allowed too (RFC 5766) */
     const void *realm;          /* the text of the realm of its users */
     size_t realm_length;        /* 0: the realm is empty */
     const void *software;       /* the text of the SOFTWARE of responses that are signed, but a 420. A
@@ -1270,9 +1302,11 @@ typedef struct {
                                    stun_types_binding_reply, and a 400, 401, 420 or 438 has none */
     size_t software_length;     /* 0: they have none either */
     const stun_types_prefix *denied; /* which peers clients may not reach, and which they may: the
-                                        longest prefix that contains an address decides, of equal ones
-                                        denied, then allowed, then the default (DENIED_BY_DEFAULT of
-                                        crates/turn_peers) */
+                                        longest prefix that contains an address and port decides, of
+                                        equal ones denied, then allowed, then the default
+                                        (DENIED_BY_DEFAULT of crates/turn_peers). A permission, which
+                                        is of no port, is refused if a prefix with all ports denies the
+                                        address, and no longer one with any port allows it */
     size_t denied_count;        /* 0: none is denied but by default */
     const stun_types_prefix *allowed;
     size_t allowed_count;       /* 0: none that is denied by default is allowed */
@@ -1282,18 +1316,41 @@ typedef struct {
     uint64_t reserved;
 } stun_types_turn_settings;
 
-/* Makes a server with no allocation. It takes all memory that its table ever needs: some 2,800 bytes
-   for each allocation. secret makes the nonces, as in stun_types_make_nonce. The server keeps copies of
+/* Makes a server with no allocation. It takes all memory that it ever keeps: some 2,700 bytes for each of
+   limits.relays. secret makes the nonces, as in stun_types_make_nonce. The server keeps copies of
    all that it is given.
-   The first of these: BAD_ARGUMENT: a number of the settings. NO_KEY: there is no secret. BAD_ARGUMENT:
-   it has fewer than 16 bytes. INVALID_DATA, TOO_LARGE: the realm, and then the software, isn't UTF-8, or
-   has more than 763 bytes. BAD_ARGUMENT: a family is neither 4 nor 6; a prefix is longer than an address
-   of its family, or one of its other bits is 1. Allocates: OUT_OF_MEMORY. If the call fails, the
-   server stays as it was. */
+   The first of these: BAD_ARGUMENT: a number of the settings, also limits.relays from 2^24 on. NO_KEY:
+   there is no secret. BAD_ARGUMENT: it has fewer than 16 bytes. INVALID_DATA, TOO_LARGE: the realm, and
+   then the software, isn't UTF-8, or has more than 763 bytes. BAD_ARGUMENT: a family is neither 4 nor 6; a
+   prefix is longer than an address of its family, or one of its other bits is 1; its first port is above
+   its last one. Allocates: OUT_OF_MEMORY. If the call fails, the server stays as it was. */
 STUN_TYPES_NODISCARD STUN_TYPES_NONNULL((1, 2, 3))
 stun_types_answer stun_types_turn_new(stun_types_turn *server,
                                       const stun_types_turn_settings *settings,
                                       const stun_types_key *secret);
+
+/* Replaces which peers clients may reach, by denied, allowed and listening of the settings, whose other fields
+   are not read. The server keeps copies. What was granted stays, and data that the new rules don't allow is
+   dropped from now on.
+   BAD_ARGUMENT: as stun_types_turn_new of these, or there is no server. Allocates: OUT_OF_MEMORY. If the call
+   fails, the rules stay. */
+STUN_TYPES_NODISCARD STUN_TYPES_NONNULL((1, 2))
+stun_types_answer stun_types_turn_set_rules(stun_types_turn *server, const stun_types_turn_settings *settings);
+
+/* Replaces the limits, but relays and reservations, for which the server has taken memory. What was granted
+   stays: a user who now has more relayed addresses than relays_per_user gets no other one.
+   It allocates nothing. BAD_ARGUMENT: there is no server. */
+STUN_TYPES_NODISCARD STUN_TYPES_NONNULL((1, 2))
+stun_types_answer stun_types_turn_set_limits(stun_types_turn *server, const stun_types_turn_limits *limits);
+
+/* Replaces the other server, to which clients are sent that can't be given a relayed address: an Allocate
+   request that would be refused with 508 is refused with 300 and this address, if it is of the client's family
+   and the request has no RESERVATION-TOKEN (RFC 8489, section 10). A new server has none. A family of 0: there
+   is none. So a server that is to be left gets no sockets (stun_types_turn_datagram) from then on.
+   It allocates nothing. BAD_ARGUMENT: the family is none of 0, 4 and 6, or there is no server. */
+STUN_TYPES_NODISCARD STUN_TYPES_NONNULL((1, 2))
+stun_types_answer stun_types_turn_set_alternate(stun_types_turn *server,
+                                                const stun_types_address *alternate);
 
 /* Ends these servers, one after the other in memory, and frees their memory, overwriting their secrets;
    leaves STUN_TYPES_TURN_INIT for each. */
@@ -1310,23 +1367,22 @@ typedef struct {
     uint16_t stream; /* 0: UDP; 1: TCP or TLS, cut into messages by stun_types_stream_push */
 } stun_types_five_tuple;
 
-/* The sockets that are ready for Allocate requests, by the addresses that clients get: family 0, none.
-   One for any port, one whose port is even; the same socket may be both. If ipv4 is 0 the server has no
-   IPv4 to offer (440), otherwise a socket that isn't ready is 508; ipv6 in the same way. */
+/* The sockets that are ready for Allocate requests, by the addresses that clients get: family 0, none, and
+   a request for one is refused with 508. One for any port, one whose port is even; the same socket may be
+   both. No relayed address may have it already: the server doesn't check that. */
 typedef struct {
     stun_types_address any_ipv4, even_ipv4, any_ipv6, even_ipv6;
-    uint16_t ipv4, ipv6;
 } stun_types_turn_ready;
 
-/* A client's datagram. All zeros, but for its bytes and where it comes from: a server with no sockets to
-   offer takes it, and no keys were looked up. */
+/* A client's datagram. All zeros, but for its bytes and where it comes from: no socket is ready, and no
+   keys were looked up. */
 typedef struct {
     const uint8_t *bytes;
     size_t length;
     stun_types_five_tuple from;
     stun_types_turn_ready ready;
     uint16_t looked_up; /* not 0: the keys that are passed are those of its user */
-    uint64_t reserved;
+    uint32_t reserved;
 } stun_types_turn_datagram;
 
 typedef STUN_TYPES_ENUM(stun_types_turn_kind) {
@@ -1336,19 +1392,32 @@ typedef STUN_TYPES_ENUM(stun_types_turn_kind) {
     STUN_TYPES_TURN_NEEDS_KEY = 3 /* find the keys of the user, and call again with them */
 } stun_types_turn_kind;
 
+/* A socket that was ready and is a relayed address's from now on. */
 typedef struct {
-    uint64_t relay;          /* TO_PEER, or if took is 1: the number of a socket */
+    uint64_t relay;             /* the number that names it until it is ended. No other ever has it; its
+                                   low 24 bits are below limits.relays, and no two that are there share
+                                   them */
+    stun_types_address relayed; /* its address, as it was ready */
+    uint32_t took;              /* 1: keep the socket by its number, and have another one ready for the next
+                                   call; 0: none was taken */
+} stun_types_turn_opened;
+
+/* What is to be done, in this order: close the sockets that ended, keep those that were taken, and send. */
+typedef struct {
+    uint64_t relay;          /* TO_PEER: the number of the socket */
     size_t at, length;       /* in bytes */
-    stun_types_address peer; /* TO_PEER; if took is 1, the relayed address, that of the ready socket */
+    size_t ended;            /* how many relayed addresses the call ended: stun_types_turn_ended */
+    stun_types_turn_opened ipv4, ipv6; /* the sockets that the request took, of each family */
+    stun_types_address peer; /* TO_PEER */
     stun_types_turn_kind kind;
-    uint32_t took;           /* 1: the socket with the address peer is an allocation's from now on, by
-                                the number relay: have another one ready for the next call */
     uint32_t code;           /* RESPONSE: the error code, or 0 if it is a success response */
+    uint32_t dont_fragment;  /* TO_PEER: 1: send with the DF bit */
 } stun_types_turn_action;
 
-/* Takes a client's datagram: keeps what it changes, and says what is to be sent. now is a monotonic
+/* Takes a client's datagram: keeps what it changes, and says what is to be done. now is a monotonic
    clock of the caller's, in nanoseconds since any moment that stays the same; the nonces count its
-   whole seconds.
+   whole seconds. Each call that takes it ends what has expired first, whatever the datagram is. A clock
+   that steps back counts as stopped.
 
    When a datagram comes, looked_up is 0, and both keys may hold none. If the kind is
    STUN_TYPES_TURN_NEEDS_KEY, nothing has changed: it is a signed request, and its USERNAME or USERHASH
@@ -1358,9 +1427,9 @@ typedef struct {
 
    A response is written into room. 1,000 bytes have room for any, but for a 420 that lists more than
    400 types. TOO_SMALL, OUT_OF_MEMORY: it isn't written, and the kind is STUN_TYPES_TURN_NOTHING. The
-   request has taken effect, though: relay, peer and took say which socket it took, and if the client
+   request has taken effect, though: ended, ipv4 and ipv6 say what it ended and took, and if the client
    sends it again it is answered. INVALID_DATA: the same, since the key is made for the other integrity
-   algorithm. OUT_OF_MEMORY also if a key can't be copied: nothing has changed, and took is 0.
+   algorithm. OUT_OF_MEMORY also if a key can't be copied: nothing has changed, and the action is zeros.
    BAD_ARGUMENT, and nothing has changed: there is no server, a family is neither 4 nor 6, an address
    that is ready is of the other family, stream is neither 0 nor 1, or reserved is not 0.
    Allocates, but not for data that goes to a peer. */
@@ -1379,6 +1448,7 @@ typedef struct {
                              client; 0: the data is dropped */
     uint16_t head_length; /* 4 on a channel; otherwise 36, or 48 for a peer with an IPv6 address */
     uint16_t padding;     /* 0 to 3; on a channel over UDP 0 */
+    size_t ended;         /* how many relayed addresses the call ended: stun_types_turn_ended */
 } stun_types_turn_delivery;
 
 #define STUN_TYPES_TURN_HEAD 48
@@ -1386,9 +1456,9 @@ typedef struct {
 /* Takes a datagram of data_length bytes, which came from peer to the socket relay. The data is neither
    read nor moved: what comes before it is written at the end of head, which has size bytes, at least
    STUN_TYPES_TURN_HEAD. So receive at buffer + 48, and pass buffer and 48. id: random; the transaction
-   ID of a Data indication. The data is dropped if the socket is no live allocation's, if there is no
-   permission for the peer, or if the message is longer than the transport to the client takes: 65,507
-   bytes over UDP and IPv4, 65,527 over UDP and IPv6, and 65,552 on a stream. It allocates nothing.
+   ID of a Data indication. The data is dropped if the socket is no live relayed address's, if there is no
+   permission for the peer, if the peer is denied, or if the message is longer than the transport to the
+   client takes: 65,507 bytes over UDP and IPv4, 65,527 over UDP and IPv6, and 65,552 on a stream. It allocates nothing.
    BAD_ARGUMENT: there is no server, or a family is neither 4 nor 6. TOO_SMALL: head is shorter. */
 STUN_TYPES_NODISCARD STUN_TYPES_NONNULL((1, 3, 6, 9))
 stun_types_answer stun_types_turn_peer(stun_types_turn *server, uint64_t now,
@@ -1396,11 +1466,256 @@ stun_types_answer stun_types_turn_peer(stun_types_turn *server, uint64_t now,
                                        size_t data_length, const stun_types_id *id, uint8_t *head,
                                        size_t size, stun_types_turn_delivery *delivery);
 
-/* Ends allocations whose time is over, at most room of them, and writes the numbers of their sockets,
-   to be closed. Returns how many, never more than room; if it is less than room, none is left. Without a
-   server, and if arguments overlap, it is 0. Call it once a second. */
+/* Ends what has expired, and returns how many relayed addresses it ended: stun_types_turn_ended. Without a
+   server it is 0. Each call that takes the time does this, so that a server without datagrams needs it
+   alone: call it once a second, or at stun_types_turn_next_due. */
 STUN_TYPES_NODISCARD STUN_TYPES_NONNULL((1))
-size_t stun_types_turn_poll(stun_types_turn *server, uint64_t now, uint64_t *ended, size_t room);
+size_t stun_types_turn_poll(stun_types_turn *server, uint64_t now);
+
+/* The same, and ends the relayed address with this number, for example if the connection of its client is
+   closed. If none has it, only what has expired ends. */
+STUN_TYPES_NODISCARD STUN_TYPES_NONNULL((1))
+size_t stun_types_turn_end(stun_types_turn *server, uint64_t now, uint64_t relay);
+
+/* The same, and ends all relayed addresses of the user with this USERHASH, whether they named themselves by
+   it or by USERNAME: for example of a user who is revoked. stun_types_userhash makes it of the name and the
+   realm of the server. 0: also if the arguments overlap. */
+STUN_TYPES_NODISCARD STUN_TYPES_NONNULL((1, 3))
+size_t stun_types_turn_end_user(stun_types_turn *server, uint64_t now, const stun_types_hash *user);
+
+/* The numbers of the sockets that the last call with the server and a time ended, to be closed: from one
+   of them on, at most room of them, in no particular order. first: 0, then how many were read. Returns how
+   many it wrote; 0: there are no more, or there is no server, or the arguments overlap. A call that returned
+   BAD_ARGUMENT, or that changed nothing, left them as they were: look at the count that it returned. */
+STUN_TYPES_NODISCARD STUN_TYPES_NONNULL((1))
+size_t stun_types_turn_ended(stun_types_turn *server, uint64_t *numbers, size_t room, size_t first);
+
+/* When the next relayed address expires, by the clock of the caller: before, stun_types_turn_poll ends
+   nothing. UINT64_MAX: there is none, or no server. */
+STUN_TYPES_NODISCARD STUN_TYPES_NONNULL((1))
+uint64_t stun_types_turn_next_due(stun_types_turn *server);
+
+/* How many relayed addresses there are, with those that have expired since the last call. 0 without a
+   server. */
+STUN_TYPES_NODISCARD STUN_TYPES_NONNULL((1))
+size_t stun_types_turn_count(stun_types_turn *server);
+
+/* ---- A TURN client (RFC 8656) ------------------------------------------------------------------ */
+
+/* A TURN client without sockets and without a clock, on the heap: one allocation at one server, on one
+   5-tuple. It asks for the allocation, answers the server's challenges, renews the allocation, its
+   permissions and its channels, and deletes it. It begins as STUN_TYPES_ALLOCATION_INIT, is made by
+   stun_types_allocation_new, which frees what it held before, and ended by stun_types_allocation_free. C
+   neither reads nor writes nor copies its fields; whether a struct holds a client is seen as with a key.
+   Each call has it alone.
+   now is a monotonic clock of the caller's, in nanoseconds since any moment that stays the same; a clock
+   that steps back counts as stopped.
+   An event loop passes each datagram of its socket to stun_types_allocation_datagram. After each call that
+   takes now, and at *wake, it calls stun_types_allocation_poll and sends what that writes, until *length is
+   0, and then stun_types_allocation_changes until that returns false. */
+typedef struct {
+    void *at;
+    uint64_t held;
+} stun_types_allocation;
+
+#define STUN_TYPES_ALLOCATION_INIT { NULL, 0 }
+
+/* STUN_TYPES_ALLOCATION_INIT, for languages that read no macros. */
+STUN_TYPES_NODISCARD
+stun_types_allocation stun_types_allocation_none(void);
+
+/* What a client is made by. Zeros, but for the server, the transport, the user and the password, are what
+   RFC 8489 and RFC 8656 recommend. */
+typedef struct {
+    stun_types_address server;      /* datagrams from elsewhere are ignored */
+    stun_types_transport transport; /* STUN_TYPES_TCP also for TLS */
+    const void *user;               /* the text of the user's name (RFC 8489, section 9.2) */
+    size_t user_length;
+    const void *password;           /* the text of the password */
+    size_t password_length;
+    const void *software;           /* the text of the SOFTWARE of requests */
+    size_t software_length;         /* 0: they have none */
+    uint32_t lifetime;              /* of the allocation, in seconds, as it is asked for; 0: requests ask
+                                       for none, and a server grants 600 */
+    uint32_t peers;                 /* the most peers, at most 4,096; 0: 32 */
+    uint32_t rto;                   /* the wait after the first sending of a request, in milliseconds, which
+                                       doubles; 0: 500. Not over TCP */
+    uint32_t last_wait;             /* the wait after the last sending, in milliseconds; 0: 16 times rto,
+                                       and 39,500 over TCP, where a request is sent once */
+    uint32_t sends;                 /* how often a request is sent at most, at most 255; 0: 7. Not over
+                                       TCP */
+    uint32_t retries;               /* how often the server may ask for other credentials before it accepts
+                                       a request, at most 255; 0: 3 */
+    uint32_t algorithm;             /* the one password algorithm that the client supports,
+                                       STUN_TYPES_PASSWORD_MD5 or STUN_TYPES_PASSWORD_SHA256; 0: both */
+    uint16_t family;                /* of the relayed address and the peers: 4 or 6; 0: 4, which Allocate
+                                       requests don't name, as for servers of RFC 5766 */
+    uint16_t fingerprint;           /* not 0: requests have a FINGERPRINT */
+    uint64_t reserved;
+} stun_types_allocation_settings;
+
+/* Makes a client that hasn't asked for anything. It keeps copies of all that it is given, and takes memory
+   for all its peers, some 400 bytes for each.
+   BAD_ARGUMENT: a number of the settings, the family of server among them, or no byte of password.
+   TOO_LARGE: user has more than 508 bytes. INVALID_DATA: user or password isn't UTF-8. INVALID_DATA,
+   TOO_LARGE: the software isn't UTF-8, or has more than 763 bytes. Allocates: OUT_OF_MEMORY. If the call
+   fails, the client stays as it was. */
+STUN_TYPES_NODISCARD STUN_TYPES_NONNULL((1, 2))
+stun_types_answer stun_types_allocation_new(stun_types_allocation *client,
+                                            const stun_types_allocation_settings *settings);
+
+/* Frees these clients, one after the other in memory, overwriting their passwords and keys, and leaves
+   STUN_TYPES_ALLOCATION_INIT for each. It sends nothing: an allocation that isn't closed expires. */
+void stun_types_allocations_free(stun_types_allocation *clients, size_t count);
+
+/* The same with one client. With STUN_TYPES_ALLOCATION_INIT, and with NULL, it does nothing. */
+static inline void stun_types_allocation_free(stun_types_allocation *client) {
+    stun_types_allocations_free(client, client ? 1 : 0);
+}
+
+/* What the user wants. */
+typedef STUN_TYPES_ENUM(stun_types_allocation_wish) {
+    STUN_TYPES_ALLOCATION_ALLOCATE = 1, /* an allocation (RFC 8656, section 7.1) */
+    STUN_TYPES_ALLOCATION_PERMIT = 2,   /* data of and to this IP address (section 9). Another peer with
+                                           this address, if one is named, serves it too */
+    STUN_TYPES_ALLOCATION_BIND = 3,     /* the same, and a channel of this very peer (section 12) */
+    STUN_TYPES_ALLOCATION_CLOSE = 4,    /* the end, after the allocation is deleted (section 8) */
+    STUN_TYPES_ALLOCATION_DROP = 5      /* no more data of and to this very peer. Its channel number rests
+                                           for 900 seconds (section 12) */
+} stun_types_allocation_wish;
+
+/* Asks for it: the next polls write the requests. What is wanted already is not asked for again; a peer
+   that is over is. A peer may be named before there is an allocation. To drop one that is not named
+   changes nothing. peer is not read for ALLOCATE and CLOSE.
+   BAD_ARGUMENT, and nothing has changed: there is no client, wish is none of these, or the family of peer
+   is neither 4 nor 6. OTHER_FAMILY: peer is new, and of another family than the relayed address (section
+   10.2). FULL: peer is new, and there is no room for it. It allocates nothing. */
+STUN_TYPES_NODISCARD STUN_TYPES_NONNULL((1, 4))
+stun_types_answer stun_types_allocation_want(stun_types_allocation *client, uint64_t now,
+                                             stun_types_allocation_wish wish,
+                                             const stun_types_address *peer);
+
+/* The data of a peer. */
+typedef struct {
+    size_t at, length;       /* it is datagram[at .. at + length) */
+    stun_types_address peer;
+    uint32_t shown;          /* 1: there is data; 0: there is none, and the others are 0 */
+} stun_types_allocation_data;
+
+/* Takes a datagram that came from this address, or a message that stun_types_stream_push completed
+   (STUN_TYPES_STREAM_CHANNEL_DATA). Data is shown if it came from the server, in a Data indication while
+   the server permits the peer's IP address, or on the channel of that very peer (RFC 8656, sections 11.4
+   and 12.6). Anything else that the client doesn't wait for is ignored.
+   BAD_ARGUMENT, and nothing has changed: there is no client, or the family of from is neither 4 nor 6.
+   Allocates for a challenge of the server alone: OUT_OF_MEMORY, and the datagram is lost. */
+STUN_TYPES_NODISCARD STUN_TYPES_NONNULL((1, 3, 6))
+stun_types_answer stun_types_allocation_datagram(stun_types_allocation *client, uint64_t now,
+                                                 const stun_types_address *from,
+                                                 const uint8_t *datagram, size_t length,
+                                                 stun_types_allocation_data *data);
+
+/* Writes the request that is to be sent to the server now: out[0 .. *length), or nothing if *length is 0.
+   Nothing is to be sent before *wake, unless another call comes first; UINT64_MAX: never. id: random, new
+   at each call; it is the transaction ID if the request is a new one. 3,000 bytes have room for any
+   request.
+   TOO_SMALL, OUT_OF_MEMORY: the request counts as sent, and lost; *length is 0. BAD_ARGUMENT, and nothing
+   is written: there is no client. Allocates if it writes a request. */
+STUN_TYPES_NODISCARD STUN_TYPES_NONNULL((1, 3, 6, 7))
+stun_types_answer stun_types_allocation_poll(stun_types_allocation *client, uint64_t now,
+                                             const stun_types_id *id, uint8_t *out, size_t size,
+                                             size_t *length, uint64_t *wake);
+
+/* What is around data for a peer. */
+typedef struct {
+    size_t length;  /* 4 on a channel; otherwise 36, or 48 for a peer with an IPv6 address */
+    size_t padding; /* 0 to 3; on a channel over UDP 0 */
+    uint32_t sends; /* 1: head[size - length .. size), the data, and padding zeros go to the server; 0: the
+                       data must not be sent */
+    uint32_t reserved;
+} stun_types_allocation_head;
+
+#define STUN_TYPES_ALLOCATION_HEAD 48
+
+/* Writes what comes before data_length bytes of data to a peer, at the end of head, which has size bytes.
+   STUN_TYPES_ALLOCATION_HEAD bytes have room for any: so keep the data at buffer + 48, and pass buffer and
+   48. The data is neither read nor moved. id: random; the transaction ID of a Send indication. The data may
+   be sent if the allocation and a permission for the peer's IP address are granted, and haven't expired
+   (RFC 8656, sections 11.1 and 12.5).
+   BAD_ARGUMENT, and nothing has changed: there is no client, or the family of peer is neither 4 nor 6.
+   TOO_LARGE: the message would be longer than the transport to the server takes, 65,507 bytes over UDP and
+   IPv4, 65,527 over UDP and IPv6, and 65,552 on a stream. TOO_SMALL: head has no room for it. It allocates
+   nothing. */
+STUN_TYPES_NODISCARD STUN_TYPES_NONNULL((1, 4, 5, 8))
+stun_types_answer stun_types_allocation_send(stun_types_allocation *client, uint64_t now,
+                                             size_t data_length, const stun_types_address *peer,
+                                             const stun_types_id *id, uint8_t *head, size_t size,
+                                             stun_types_allocation_head *around);
+
+typedef STUN_TYPES_ENUM(stun_types_allocation_change_kind) {
+    STUN_TYPES_ALLOCATION_UNCHANGED = 0,
+    STUN_TYPES_ALLOCATION_ALLOCATED = 1, /* there is an allocation: relayed, mapped, until */
+    STUN_TYPES_ALLOCATION_REFRESHED = 2, /* it lasts longer: until */
+    /* Something else holds of peer: channel, wants, until, channel_until, violated. */
+    STUN_TYPES_ALLOCATION_ASKED = 3,     /* nothing is granted: it is asked for, or has expired */
+    STUN_TYPES_ALLOCATION_PERMITTED = 4, /* data goes to it in Send indications */
+    STUN_TYPES_ALLOCATION_BOUND = 5,     /* data goes to it by its channel */
+    STUN_TYPES_ALLOCATION_PEER_OVER = 6, /* the client has given it up; code */
+    STUN_TYPES_ALLOCATION_CLOSING = 7,   /* the allocation is being deleted */
+    STUN_TYPES_ALLOCATION_OVER = 8       /* the client has ended: why, code, server, rest */
+} stun_types_allocation_change_kind;
+
+/* Why a client has ended. */
+typedef STUN_TYPES_ENUM(stun_types_allocation_end) {
+    STUN_TYPES_ALLOCATION_CLOSED = 1,   /* the user closed it */
+    STUN_TYPES_ALLOCATION_SILENT = 2,   /* no response came in time */
+    STUN_TYPES_ALLOCATION_REJECTED = 3, /* code: of the error response. After 437 try another socket */
+    STUN_TYPES_ALLOCATION_MOVED = 4,    /* server: an alternate server, with code 300 */
+    STUN_TYPES_ALLOCATION_USELESS = 5,  /* the server granted a lifetime of less than 80 seconds, or a
+                                           relayed address of another family */
+    STUN_TYPES_ALLOCATION_VIOLATED = 6  /* only responses with a wrong integrity came */
+} stun_types_allocation_end;
+
+/* The fields that kind doesn't name are 0. Moments are those of the caller's clock. */
+typedef struct {
+    uint64_t until;             /* when the allocation, or the permission of the peer's IP address, expires
+                                   at the earliest; 0: none was granted */
+    uint64_t channel_until;     /* when the peer's channel does */
+    stun_types_allocation_change_kind kind;
+    stun_types_allocation_end why;
+    stun_types_address relayed; /* the relayed address */
+    stun_types_address mapped;  /* the client's address, as the server sees it */
+    stun_types_address peer;
+    stun_types_address server;  /* MOVED: the alternate server */
+    uint16_t channel;           /* the number of the peer's channel, also if it isn't bound */
+    uint16_t code;              /* an error code; 0: none, or no response counted */
+    uint16_t wants;             /* 1: a channel is wanted; 0 again after the server has refused one */
+    uint16_t violated;          /* 1: a response to the last request for the peer had a wrong integrity */
+    uint32_t rest;              /* for how many seconds to leave the server alone: 120 after 437, 60 after
+                                   486 and 508 (RFC 8656, section 7.4), otherwise 0 */
+    uint32_t reserved;
+} stun_types_allocation_change;
+
+/* A difference between what holds of the client and what the calls before have reported, if there is one;
+   true then, and it counts as reported. The allocation comes first, then its peers as they were named. Of changes that undo each other between two calls nothing is reported,
+   and after OVER nothing more. False: there is none, or there is no client. It allocates nothing. */
+STUN_TYPES_NODISCARD STUN_TYPES_NONNULL((1, 2))
+bool stun_types_allocation_changes(stun_types_allocation *client, stun_types_allocation_change *change);
+
+/* A client at a server, and those before it. All zeros but for server: the first one. */
+typedef struct {
+    stun_types_address server;
+    stun_types_address before[3]; /* servers of earlier clients, the newest first */
+    uint16_t tries;               /* how many clients this server has already had, at most 2 */
+    uint16_t servers;             /* how many servers are in before */
+} stun_types_allocation_attempt;
+
+/* What to try after the client of an attempt has ended, as ended reports it: from another local address at
+   the same server after a 437, twice at most; and at the alternate server after a 300, if it wasn't asked
+   before (RFC 8656, section 7.4; RFC 8489, section 10). At most eleven attempts follow the first. False, and
+   *attempt stays: there is nothing to try, or the attempt is none. */
+STUN_TYPES_NODISCARD STUN_TYPES_NONNULL((1, 2))
+bool stun_types_allocation_attempt_next(stun_types_allocation_attempt *attempt,
+                                        const stun_types_allocation_change *ended);
 
 /* ---- Layout ----------------------------------------------------------------------------------- */
 
@@ -1430,6 +1745,9 @@ STUN_TYPES_LAYOUT(end_size, sizeof(stun_types_end) == 4);
 STUN_TYPES_LAYOUT(received_kind_size, sizeof(stun_types_received_kind) == 4);
 STUN_TYPES_LAYOUT(stream_kind_size, sizeof(stun_types_stream_kind) == 4);
 STUN_TYPES_LAYOUT(turn_kind_size, sizeof(stun_types_turn_kind) == 4);
+STUN_TYPES_LAYOUT(allocation_wish_size, sizeof(stun_types_allocation_wish) == 4);
+STUN_TYPES_LAYOUT(allocation_change_kind_size, sizeof(stun_types_allocation_change_kind) == 4);
+STUN_TYPES_LAYOUT(allocation_end_size, sizeof(stun_types_allocation_end) == 4);
 STUN_TYPES_LAYOUT(answer_size, sizeof(stun_types_answer) == 24);
 STUN_TYPES_LAYOUT(answer_code, offsetof(stun_types_answer, code) == 0);
 STUN_TYPES_LAYOUT(answer_type, offsetof(stun_types_answer, type) == 4);
@@ -1553,61 +1871,128 @@ STUN_TYPES_LAYOUT(channel_data_length, offsetof(stun_types_channel_data, length)
 STUN_TYPES_LAYOUT(turn_size, sizeof(stun_types_turn) == 16);
 STUN_TYPES_LAYOUT(turn_at, offsetof(stun_types_turn, at) == 0);
 STUN_TYPES_LAYOUT(turn_held, offsetof(stun_types_turn, held) == 8);
-STUN_TYPES_LAYOUT(prefix_size, sizeof(stun_types_prefix) == 22);
+STUN_TYPES_LAYOUT(prefix_size, sizeof(stun_types_prefix) == 26);
 STUN_TYPES_LAYOUT(prefix_address, offsetof(stun_types_prefix, address) == 0);
 STUN_TYPES_LAYOUT(prefix_length, offsetof(stun_types_prefix, length) == 20);
-STUN_TYPES_LAYOUT(turn_settings_size, sizeof(stun_types_turn_settings) == 152);
+STUN_TYPES_LAYOUT(prefix_first_port, offsetof(stun_types_prefix, first_port) == 22);
+STUN_TYPES_LAYOUT(prefix_last_port, offsetof(stun_types_prefix, last_port) == 24);
+STUN_TYPES_LAYOUT(turn_limits_size, sizeof(stun_types_turn_limits) == 28);
+STUN_TYPES_LAYOUT(turn_limits_relays, offsetof(stun_types_turn_limits, relays) == 0);
+STUN_TYPES_LAYOUT(turn_limits_relays_per_user, offsetof(stun_types_turn_limits, relays_per_user) == 4);
+STUN_TYPES_LAYOUT(turn_limits_reservations, offsetof(stun_types_turn_limits, reservations) == 8);
+STUN_TYPES_LAYOUT(turn_limits_greatest_lifetime, offsetof(stun_types_turn_limits, greatest_lifetime) == 12);
+STUN_TYPES_LAYOUT(turn_limits_ipv4, offsetof(stun_types_turn_limits, ipv4) == 16);
+STUN_TYPES_LAYOUT(turn_limits_ipv6, offsetof(stun_types_turn_limits, ipv6) == 18);
+STUN_TYPES_LAYOUT(turn_limits_dont_fragment, offsetof(stun_types_turn_limits, dont_fragment) == 20);
+STUN_TYPES_LAYOUT(turn_limits_icmp, offsetof(stun_types_turn_limits, icmp) == 22);
+STUN_TYPES_LAYOUT(turn_limits_channel_permits, offsetof(stun_types_turn_limits, channel_permits) == 24);
+STUN_TYPES_LAYOUT(turn_limits_old_channels, offsetof(stun_types_turn_limits, old_channels) == 26);
+STUN_TYPES_LAYOUT(turn_settings_size, sizeof(stun_types_turn_settings) == 160);
 STUN_TYPES_LAYOUT(turn_settings_window, offsetof(stun_types_turn_settings, window) == 0);
 STUN_TYPES_LAYOUT(turn_settings_seed, offsetof(stun_types_turn_settings, seed) == 8);
 STUN_TYPES_LAYOUT(turn_settings_policy, offsetof(stun_types_turn_settings, policy) == 24);
-STUN_TYPES_LAYOUT(turn_settings_allocations, offsetof(stun_types_turn_settings, allocations) == 40);
-STUN_TYPES_LAYOUT(turn_settings_of_user, offsetof(stun_types_turn_settings, of_user) == 44);
-STUN_TYPES_LAYOUT(turn_settings_greatest_lifetime, offsetof(stun_types_turn_settings, greatest_lifetime) == 48);
-STUN_TYPES_LAYOUT(turn_settings_features, offsetof(stun_types_turn_settings, features) == 52);
-STUN_TYPES_LAYOUT(turn_settings_channel_permits, offsetof(stun_types_turn_settings, channel_permits) == 56);
-STUN_TYPES_LAYOUT(turn_settings_old_channels, offsetof(stun_types_turn_settings, old_channels) == 60);
-STUN_TYPES_LAYOUT(turn_settings_realm, offsetof(stun_types_turn_settings, realm) == 64);
-STUN_TYPES_LAYOUT(turn_settings_realm_length, offsetof(stun_types_turn_settings, realm_length) == 72);
-STUN_TYPES_LAYOUT(turn_settings_software, offsetof(stun_types_turn_settings, software) == 80);
-STUN_TYPES_LAYOUT(turn_settings_software_length, offsetof(stun_types_turn_settings, software_length) == 88);
-STUN_TYPES_LAYOUT(turn_settings_denied, offsetof(stun_types_turn_settings, denied) == 96);
-STUN_TYPES_LAYOUT(turn_settings_denied_count, offsetof(stun_types_turn_settings, denied_count) == 104);
-STUN_TYPES_LAYOUT(turn_settings_allowed, offsetof(stun_types_turn_settings, allowed) == 112);
-STUN_TYPES_LAYOUT(turn_settings_allowed_count, offsetof(stun_types_turn_settings, allowed_count) == 120);
-STUN_TYPES_LAYOUT(turn_settings_listening, offsetof(stun_types_turn_settings, listening) == 128);
-STUN_TYPES_LAYOUT(turn_settings_listening_count, offsetof(stun_types_turn_settings, listening_count) == 136);
-STUN_TYPES_LAYOUT(turn_settings_reserved, offsetof(stun_types_turn_settings, reserved) == 144);
+STUN_TYPES_LAYOUT(turn_settings_limits, offsetof(stun_types_turn_settings, limits) == 40);
+STUN_TYPES_LAYOUT(turn_settings_features, offsetof(stun_types_turn_settings, features) == 68);
+STUN_TYPES_LAYOUT(turn_settings_realm, offsetof(stun_types_turn_settings, realm) == 72);
+STUN_TYPES_LAYOUT(turn_settings_realm_length, offsetof(stun_types_turn_settings, realm_length) == 80);
+STUN_TYPES_LAYOUT(turn_settings_software, offsetof(stun_types_turn_settings, software) == 88);
+STUN_TYPES_LAYOUT(turn_settings_software_length, offsetof(stun_types_turn_settings, software_length) == 96);
+STUN_TYPES_LAYOUT(turn_settings_denied, offsetof(stun_types_turn_settings, denied) == 104);
+STUN_TYPES_LAYOUT(turn_settings_denied_count, offsetof(stun_types_turn_settings, denied_count) == 112);
+STUN_TYPES_LAYOUT(turn_settings_allowed, offsetof(stun_types_turn_settings, allowed) == 120);
+STUN_TYPES_LAYOUT(turn_settings_allowed_count, offsetof(stun_types_turn_settings, allowed_count) == 128);
+STUN_TYPES_LAYOUT(turn_settings_listening, offsetof(stun_types_turn_settings, listening) == 136);
+STUN_TYPES_LAYOUT(turn_settings_listening_count, offsetof(stun_types_turn_settings, listening_count) == 144);
+STUN_TYPES_LAYOUT(turn_settings_reserved, offsetof(stun_types_turn_settings, reserved) == 152);
 STUN_TYPES_LAYOUT(five_tuple_size, sizeof(stun_types_five_tuple) == 42);
 STUN_TYPES_LAYOUT(five_tuple_client, offsetof(stun_types_five_tuple, client) == 0);
 STUN_TYPES_LAYOUT(five_tuple_server, offsetof(stun_types_five_tuple, server) == 20);
 STUN_TYPES_LAYOUT(five_tuple_stream, offsetof(stun_types_five_tuple, stream) == 40);
-STUN_TYPES_LAYOUT(turn_ready_size, sizeof(stun_types_turn_ready) == 84);
+STUN_TYPES_LAYOUT(turn_ready_size, sizeof(stun_types_turn_ready) == 80);
 STUN_TYPES_LAYOUT(turn_ready_any_ipv4, offsetof(stun_types_turn_ready, any_ipv4) == 0);
 STUN_TYPES_LAYOUT(turn_ready_even_ipv4, offsetof(stun_types_turn_ready, even_ipv4) == 20);
 STUN_TYPES_LAYOUT(turn_ready_any_ipv6, offsetof(stun_types_turn_ready, any_ipv6) == 40);
 STUN_TYPES_LAYOUT(turn_ready_even_ipv6, offsetof(stun_types_turn_ready, even_ipv6) == 60);
-STUN_TYPES_LAYOUT(turn_ready_ipv4, offsetof(stun_types_turn_ready, ipv4) == 80);
-STUN_TYPES_LAYOUT(turn_ready_ipv6, offsetof(stun_types_turn_ready, ipv6) == 82);
-STUN_TYPES_LAYOUT(turn_datagram_size, sizeof(stun_types_turn_datagram) == 152);
+STUN_TYPES_LAYOUT(turn_datagram_size, sizeof(stun_types_turn_datagram) == 144);
 STUN_TYPES_LAYOUT(turn_datagram_bytes, offsetof(stun_types_turn_datagram, bytes) == 0);
 STUN_TYPES_LAYOUT(turn_datagram_length, offsetof(stun_types_turn_datagram, length) == 8);
 STUN_TYPES_LAYOUT(turn_datagram_from, offsetof(stun_types_turn_datagram, from) == 16);
 STUN_TYPES_LAYOUT(turn_datagram_ready, offsetof(stun_types_turn_datagram, ready) == 58);
-STUN_TYPES_LAYOUT(turn_datagram_looked_up, offsetof(stun_types_turn_datagram, looked_up) == 142);
-STUN_TYPES_LAYOUT(turn_datagram_reserved, offsetof(stun_types_turn_datagram, reserved) == 144);
-STUN_TYPES_LAYOUT(turn_action_size, sizeof(stun_types_turn_action) == 56);
+STUN_TYPES_LAYOUT(turn_datagram_looked_up, offsetof(stun_types_turn_datagram, looked_up) == 138);
+STUN_TYPES_LAYOUT(turn_datagram_reserved, offsetof(stun_types_turn_datagram, reserved) == 140);
+STUN_TYPES_LAYOUT(turn_opened_size, sizeof(stun_types_turn_opened) == 32);
+STUN_TYPES_LAYOUT(turn_opened_relay, offsetof(stun_types_turn_opened, relay) == 0);
+STUN_TYPES_LAYOUT(turn_opened_relayed, offsetof(stun_types_turn_opened, relayed) == 8);
+STUN_TYPES_LAYOUT(turn_opened_took, offsetof(stun_types_turn_opened, took) == 28);
+STUN_TYPES_LAYOUT(turn_action_size, sizeof(stun_types_turn_action) == 128);
 STUN_TYPES_LAYOUT(turn_action_relay, offsetof(stun_types_turn_action, relay) == 0);
 STUN_TYPES_LAYOUT(turn_action_at, offsetof(stun_types_turn_action, at) == 8);
 STUN_TYPES_LAYOUT(turn_action_length, offsetof(stun_types_turn_action, length) == 16);
-STUN_TYPES_LAYOUT(turn_action_peer, offsetof(stun_types_turn_action, peer) == 24);
-STUN_TYPES_LAYOUT(turn_action_kind, offsetof(stun_types_turn_action, kind) == 44);
-STUN_TYPES_LAYOUT(turn_action_took, offsetof(stun_types_turn_action, took) == 48);
-STUN_TYPES_LAYOUT(turn_action_code, offsetof(stun_types_turn_action, code) == 52);
-STUN_TYPES_LAYOUT(turn_delivery_size, sizeof(stun_types_turn_delivery) == 48);
+STUN_TYPES_LAYOUT(turn_action_ended, offsetof(stun_types_turn_action, ended) == 24);
+STUN_TYPES_LAYOUT(turn_action_ipv4, offsetof(stun_types_turn_action, ipv4) == 32);
+STUN_TYPES_LAYOUT(turn_action_ipv6, offsetof(stun_types_turn_action, ipv6) == 64);
+STUN_TYPES_LAYOUT(turn_action_peer, offsetof(stun_types_turn_action, peer) == 96);
+STUN_TYPES_LAYOUT(turn_action_kind, offsetof(stun_types_turn_action, kind) == 116);
+STUN_TYPES_LAYOUT(turn_action_code, offsetof(stun_types_turn_action, code) == 120);
+STUN_TYPES_LAYOUT(turn_action_dont_fragment, offsetof(stun_types_turn_action, dont_fragment) == 124);
+STUN_TYPES_LAYOUT(turn_delivery_size, sizeof(stun_types_turn_delivery) == 56);
 STUN_TYPES_LAYOUT(turn_delivery_to, offsetof(stun_types_turn_delivery, to) == 0);
 STUN_TYPES_LAYOUT(turn_delivery_sends, offsetof(stun_types_turn_delivery, sends) == 42);
 STUN_TYPES_LAYOUT(turn_delivery_head_length, offsetof(stun_types_turn_delivery, head_length) == 44);
 STUN_TYPES_LAYOUT(turn_delivery_padding, offsetof(stun_types_turn_delivery, padding) == 46);
+STUN_TYPES_LAYOUT(turn_delivery_ended, offsetof(stun_types_turn_delivery, ended) == 48);
+STUN_TYPES_LAYOUT(allocation_size, sizeof(stun_types_allocation) == 16);
+STUN_TYPES_LAYOUT(allocation_at, offsetof(stun_types_allocation, at) == 0);
+STUN_TYPES_LAYOUT(allocation_held, offsetof(stun_types_allocation, held) == 8);
+STUN_TYPES_LAYOUT(allocation_settings_size, sizeof(stun_types_allocation_settings) == 112);
+STUN_TYPES_LAYOUT(allocation_settings_server, offsetof(stun_types_allocation_settings, server) == 0);
+STUN_TYPES_LAYOUT(allocation_settings_transport, offsetof(stun_types_allocation_settings, transport) == 20);
+STUN_TYPES_LAYOUT(allocation_settings_user, offsetof(stun_types_allocation_settings, user) == 24);
+STUN_TYPES_LAYOUT(allocation_settings_user_length, offsetof(stun_types_allocation_settings, user_length) == 32);
+STUN_TYPES_LAYOUT(allocation_settings_password, offsetof(stun_types_allocation_settings, password) == 40);
+STUN_TYPES_LAYOUT(allocation_settings_password_length, offsetof(stun_types_allocation_settings, password_length) == 48);
+STUN_TYPES_LAYOUT(allocation_settings_software, offsetof(stun_types_allocation_settings, software) == 56);
+STUN_TYPES_LAYOUT(allocation_settings_software_length, offsetof(stun_types_allocation_settings, software_length) == 64);
+STUN_TYPES_LAYOUT(allocation_settings_lifetime, offsetof(stun_types_allocation_settings, lifetime) == 72);
+STUN_TYPES_LAYOUT(allocation_settings_peers, offsetof(stun_types_allocation_settings, peers) == 76);
+STUN_TYPES_LAYOUT(allocation_settings_rto, offsetof(stun_types_allocation_settings, rto) == 80);
+STUN_TYPES_LAYOUT(allocation_settings_last_wait, offsetof(stun_types_allocation_settings, last_wait) == 84);
+STUN_TYPES_LAYOUT(allocation_settings_sends, offsetof(stun_types_allocation_settings, sends) == 88);
+STUN_TYPES_LAYOUT(allocation_settings_retries, offsetof(stun_types_allocation_settings, retries) == 92);
+STUN_TYPES_LAYOUT(allocation_settings_algorithm, offsetof(stun_types_allocation_settings, algorithm) == 96);
+STUN_TYPES_LAYOUT(allocation_settings_family, offsetof(stun_types_allocation_settings, family) == 100);
+STUN_TYPES_LAYOUT(allocation_settings_fingerprint, offsetof(stun_types_allocation_settings, fingerprint) == 102);
+STUN_TYPES_LAYOUT(allocation_settings_reserved, offsetof(stun_types_allocation_settings, reserved) == 104);
+STUN_TYPES_LAYOUT(allocation_data_size, sizeof(stun_types_allocation_data) == 40);
+STUN_TYPES_LAYOUT(allocation_data_at, offsetof(stun_types_allocation_data, at) == 0);
+STUN_TYPES_LAYOUT(allocation_data_length, offsetof(stun_types_allocation_data, length) == 8);
+STUN_TYPES_LAYOUT(allocation_data_peer, offsetof(stun_types_allocation_data, peer) == 16);
+STUN_TYPES_LAYOUT(allocation_data_shown, offsetof(stun_types_allocation_data, shown) == 36);
+STUN_TYPES_LAYOUT(allocation_head_size, sizeof(stun_types_allocation_head) == 24);
+STUN_TYPES_LAYOUT(allocation_head_length, offsetof(stun_types_allocation_head, length) == 0);
+STUN_TYPES_LAYOUT(allocation_head_padding, offsetof(stun_types_allocation_head, padding) == 8);
+STUN_TYPES_LAYOUT(allocation_head_sends, offsetof(stun_types_allocation_head, sends) == 16);
+STUN_TYPES_LAYOUT(allocation_head_reserved, offsetof(stun_types_allocation_head, reserved) == 20);
+STUN_TYPES_LAYOUT(allocation_change_size, sizeof(stun_types_allocation_change) == 120);
+STUN_TYPES_LAYOUT(allocation_change_until, offsetof(stun_types_allocation_change, until) == 0);
+STUN_TYPES_LAYOUT(allocation_change_channel_until, offsetof(stun_types_allocation_change, channel_until) == 8);
+STUN_TYPES_LAYOUT(allocation_change_kind, offsetof(stun_types_allocation_change, kind) == 16);
+STUN_TYPES_LAYOUT(allocation_change_why, offsetof(stun_types_allocation_change, why) == 20);
+STUN_TYPES_LAYOUT(allocation_change_relayed, offsetof(stun_types_allocation_change, relayed) == 24);
+STUN_TYPES_LAYOUT(allocation_change_mapped, offsetof(stun_types_allocation_change, mapped) == 44);
+STUN_TYPES_LAYOUT(allocation_change_peer, offsetof(stun_types_allocation_change, peer) == 64);
+STUN_TYPES_LAYOUT(allocation_change_server, offsetof(stun_types_allocation_change, server) == 84);
+STUN_TYPES_LAYOUT(allocation_change_channel, offsetof(stun_types_allocation_change, channel) == 104);
+STUN_TYPES_LAYOUT(allocation_change_code, offsetof(stun_types_allocation_change, code) == 106);
+STUN_TYPES_LAYOUT(allocation_change_wants, offsetof(stun_types_allocation_change, wants) == 108);
+STUN_TYPES_LAYOUT(allocation_change_violated, offsetof(stun_types_allocation_change, violated) == 110);
+STUN_TYPES_LAYOUT(allocation_change_rest, offsetof(stun_types_allocation_change, rest) == 112);
+STUN_TYPES_LAYOUT(allocation_change_reserved, offsetof(stun_types_allocation_change, reserved) == 116);
+STUN_TYPES_LAYOUT(allocation_attempt_size, sizeof(stun_types_allocation_attempt) == 84);
+STUN_TYPES_LAYOUT(allocation_attempt_server, offsetof(stun_types_allocation_attempt, server) == 0);
+STUN_TYPES_LAYOUT(allocation_attempt_before, offsetof(stun_types_allocation_attempt, before) == 20);
+STUN_TYPES_LAYOUT(allocation_attempt_tries, offsetof(stun_types_allocation_attempt, tries) == 80);
+STUN_TYPES_LAYOUT(allocation_attempt_servers, offsetof(stun_types_allocation_attempt, servers) == 82);
 /* (until here) */
 #undef STUN_TYPES_LAYOUT
 

@@ -64,24 +64,41 @@ static bool receive(nfds_t by, stun_types_address *from, size_t *length) {
     return got >= 0 && address_of(&at.bytes, from);
 }
 
+/* Closes the sockets of the relays that the last call ended. */
+static void close_ended(void) {
+    uint64_t ended;
+    for (size_t first = 0; stun_types_turn_ended(&server, &ended, 1, first) == 1; first++) {
+        nfds_t at = relay_of(ended);
+        if (at == count) continue;
+        close(sockets[at].fd);
+        sockets[at] = sockets[--count];
+        numbers[at] = numbers[count];
+    }
+}
+
+static void keep(const stun_types_turn_opened *opened) {
+    if (!opened->took) return;
+    sockets[count] = spare;
+    numbers[count++] = opened->relay;
+    ready.family = 0;
+}
+
 static void take_from_client(void) {
     static uint8_t response[2000];
     stun_types_turn_datagram it = {.bytes = datagram, .from.server = own, .looked_up = 1};
-    stun_types_turn_action does = {.took = 0};
+    stun_types_turn_action does = {.ended = 0};
     stun_types_attribute name;
     if (!receive(0, &it.from.client, &it.length)) return;
-    if (own.family == 4) it.ready = (stun_types_turn_ready){.ipv4 = 1, .any_ipv4 = ready, .even_ipv4 = ready};
-    else it.ready = (stun_types_turn_ready){.ipv6 = 1, .any_ipv6 = ready, .even_ipv6 = ready};
+    if (own.family == 4) it.ready.any_ipv4 = it.ready.even_ipv4 = ready;
+    else it.ready.any_ipv6 = it.ready.even_ipv6 = ready;
     /* (a server of many users finds the keys when it is asked to, by STUN_TYPES_TURN_NEEDS_KEY) */
     bool is_user = stun_types_find(datagram, it.length, STUN_TYPES_ATTRIBUTE_USERNAME, &name) &&
                    name.length == strlen(user) && memcmp(datagram + name.value_at, user, name.length) == 0;
     if (stun_types_turn_client(&server, nanoseconds(), &it, is_user ? &md5 : &none, is_user ? &sha256 : &none,
                                response, sizeof response, &does).code) does.kind = STUN_TYPES_TURN_NOTHING;
-    if (does.took) { /* also if the response can't be written */
-        sockets[count] = spare;
-        numbers[count++] = does.relay;
-        ready.family = 0;
-    }
+    if (does.ended) close_ended();
+    keep(&does.ipv4); /* also if the response can't be written */
+    keep(&does.ipv6);
     if (does.kind == STUN_TYPES_TURN_RESPONSE) send_to(0, &it.from.client, response, does.length);
     if (does.kind == STUN_TYPES_TURN_TO_PEER)
         send_to(relay_of(does.relay), &does.peer, datagram + does.at, does.length);
@@ -93,19 +110,11 @@ static void take_from_peer(nfds_t by) {
     stun_types_id id;
     size_t length;
     if (!receive(by, &peer, &length) || getrandom(&id, sizeof id, 0) != sizeof id) return;
-    if (stun_types_turn_peer(&server, nanoseconds(), &peer, numbers[by], length, &id, room, HEAD, &to).code ||
-        !to.sends) return;
+    if (stun_types_turn_peer(&server, nanoseconds(), &peer, numbers[by], length, &id, room, HEAD, &to).code)
+        return;
     memset(datagram + length, 0, to.padding);
-    send_to(0, &to.to.client, datagram - to.head_length, to.head_length + length + to.padding);
-}
-
-static void close_ended(void) {
-    for (uint64_t ended; stun_types_turn_poll(&server, nanoseconds(), &ended, 1) == 1;) {
-        nfds_t at = relay_of(ended);
-        close(sockets[at].fd);
-        sockets[at] = sockets[--count];
-        numbers[at] = numbers[count];
-    }
+    if (to.sends) send_to(0, &to.to.client, datagram - to.head_length, to.head_length + length + to.padding);
+    if (to.ended) close_ended();
 }
 
 int main(int words, char **word) {
@@ -118,11 +127,15 @@ int main(int words, char **word) {
         return fprintf(stderr, "usage: relay_server ADDRESS PORT REALM USER PASSWORD [PEER]\n"), 2;
     allowed.length = allowed.address.family == 6 ? 128 : 32;
     stun_types_turn_settings settings = {
-        .window = 3600, .allocations = RELAYS, .of_user = RELAYS, .old_channels = 1, /* of coturn's client */
-        .features = STUN_TYPES_FEATURE_PASSWORD_ALGORITHMS, .realm = word[3], .realm_length = strlen(word[3]),
+        .window = 3600, .limits = STUN_TYPES_TURN_LIMITS, .features = STUN_TYPES_FEATURE_PASSWORD_ALGORITHMS,
+        .realm = word[3], .realm_length = strlen(word[3]),
         .allowed = &allowed, .allowed_count = allows, .listening = &own, .listening_count = 1};
     stun_types_key secret = STUN_TYPES_KEY_INIT;
     user = word[4];
+    settings.limits.relays = settings.limits.relays_per_user = RELAYS;
+    settings.limits.old_channels = 1; /* of coturn's client */
+    settings.limits.ipv4 = own.family == 4;
+    settings.limits.ipv6 = own.family == 6;
     sockets[0] = open_socket(&own);
     if (own.family == 0 || getrandom(random, sizeof random, 0) != sizeof random ||
         getrandom(settings.seed, sizeof settings.seed, 0) != sizeof settings.seed ||
@@ -143,8 +156,8 @@ int main(int words, char **word) {
             spare = open_socket(&ready);
         }
         if (poll(sockets, count, 1000) < 0) return perror("relay_server"), 2;
-        for (nfds_t by = count; by-- > 1;) if (sockets[by].revents) take_from_peer(by);
+        for (nfds_t by = count; by-- > 1;) if (by < count && sockets[by].revents) take_from_peer(by);
         if (sockets[0].revents) take_from_client();
-        close_ended();
+        if (stun_types_turn_poll(&server, nanoseconds())) close_ended();
     }
 }

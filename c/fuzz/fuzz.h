@@ -172,5 +172,6 @@ void check_credentials(source *from);
 void check_challenges(source *from);
 void check_transactions(source *from);
 void check_turn(source *from);
+void check_allocations(source *from);
 
 #endif

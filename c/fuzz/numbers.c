@@ -14,7 +14,7 @@ static stun_types_protocol protocol(unsigned first) {
 }
 
 static void check_code_text(source *from) {
-    uint32_t code = take_below(from, STUN_TYPES_HMAC_TOO_SHORT + 2, 8);
+    uint32_t code = take_below(from, STUN_TYPES_OTHER_FAMILY + 2, 8);
     const char *wanted = stun_types_status_text(code);
     size_t length = strlen(wanted) + 1, size = take(from) % (length + 8);
     char *room = place(size);

@@ -1,4 +1,4 @@
-/* A TURN server: datagrams of its clients, right, changed and any, those of peers, polls and
+/* A TURN server: datagrams of its clients, right, changed and any, those of peers, ends and
  * moments. What it does is what the model does. */
 #include <string.h>
 
@@ -75,7 +75,7 @@ static void take_lifetime(source *from) {
 
 /* One of few channels, also of those that only an older client binds. */
 static uint32_t channel_of(unsigned how) {
-    return (model.settings.old_channels != 0 && how / 64 == 1 ? 0x5000 : 0x4000) + how % 3;
+    return (model.settings.limits.old_channels != 0 && how / 64 == 1 ? 0x5000 : 0x4000) + how % 3;
 }
 
 /* What a request of a method has, but for its credentials; one in some has another length or value. */
@@ -181,6 +181,7 @@ static void check_response(const uint8_t *room, size_t length, const model_turn_
     stun_types_validated validated;
     stun_types_address address;
     uint16_t code = 0;
+    size_t i, relayed = 0, missing = 0;
     HOLDS(model_parse(room, length).code == STUN_TYPES_OK);
     HOLDS(model_number(room)
           == (model_number(message.bytes) | (done->action.code == 0 ? 0x0100u : 0x0110u)));
@@ -203,27 +204,80 @@ static void check_response(const uint8_t *room, size_t length, const model_turn_
               && ((uint32_t)model_number(room + found->value_at) << 16
                   | model_number(room + found->value_at + 2))
                      == done->lifetime);
-    found = model_find(&shown, 0x0016);
-    HOLDS((found != NULL) == (done->action.peer.family != 0));
-    if (found == NULL) return;
-    HOLDS(model_address(room + found->value_at, found->length, &address).code == STUN_TYPES_OK);
-    model_xor(room, &address);
-    HOLDS(model_is_same_address(&address, &done->action.peer));
+    found = model_find(&shown, 0x8023);
+    HOLDS((found != NULL) == (done->alternate.family != 0));
+    if (found != NULL) {
+        HOLDS(model_address(room + found->value_at, found->length, &address).code == STUN_TYPES_OK);
+        HOLDS(model_is_same_address(&address, &done->alternate));
+    }
+    for (i = 0; i < shown.count; i++) {
+        const uint8_t *value = room + shown.all[i].value_at;
+        if (shown.all[i].type == 0x0016) {
+            HOLDS(model_address(value, shown.all[i].length, &address).code == STUN_TYPES_OK);
+            model_xor(room, &address);
+            HOLDS(model_is_same_address(&address, &done->relayed[address.family == 4 ? 0 : 1]));
+            relayed++;
+        }
+        if (shown.all[i].type == 0x8001) {
+            HOLDS(shown.all[i].length >= 4 && (value[0] == 1 || value[0] == 2));
+            HOLDS(value[2] * 100u + value[3] == done->missing[value[0] - 1]);
+            missing++;
+        }
+    }
+    HOLDS(relayed == (size_t)(done->relayed[0].family != 0) + (done->relayed[1].family != 0));
+    HOLDS(missing == (size_t)(done->missing[0] != 0) + (done->missing[1] != 0));
+}
+
+/* The numbers of the sockets that calls ended. */
+static uint64_t closed[MODEL_TURN_ALLOCATIONS + 1];
+static size_t closed_count;
+
+/* Reads those of the last call, of which it says how many: so many at a time. */
+static void take_ended(size_t count, size_t portion) {
+    size_t first, wrote;
+    for (first = 0; first <= count; first += wrote) {
+        uint64_t *numbers = place(portion * sizeof *numbers);
+        size_t i;
+        wrote = stun_types_turn_ended(server, numbers, portion, first);
+        HOLDS(wrote == (count - first < portion ? count - first : portion));
+        for (i = 0; i < wrote && closed_count < MODEL_TURN_ALLOCATIONS; i++)
+            closed[closed_count++] = numbers[i];
+        for (; i < portion; i++) HOLDS(is_filled(&numbers[i], sizeof numbers[i]));
+        if (wrote == 0) break;
+    }
+}
+
+/* That they are those of the model, each once. */
+static void check_ended(void) {
+    size_t i, j, same;
+    HOLDS(closed_count == model.ended_count);
+    for (i = 0; i < model.ended_count; i++) {
+        for (j = same = 0; j < closed_count; j++) same += closed[j] == model.ended[i];
+        HOLDS(same == 1);
+    }
+    closed_count = 0;
+}
+
+/* The socket that the model takes of a family, or none. */
+static void check_opened(const stun_types_turn_opened *told, model_allocation *opened) {
+    size_t i;
+    HOLDS(told->took == (opened != NULL));
+    if (opened == NULL) {
+        HOLDS(told->relay == 0 && told->relayed.family == 0);
+        return;
+    }
+    HOLDS(model_is_same_address(&told->relayed, &opened->relayed));
+    for (i = 0; i < MODEL_TURN_ALLOCATIONS; i++)
+        HOLDS(&model.all[i] == opened || !model.all[i].takes_place || model.all[i].relay != told->relay);
+    opened->relay = told->relay;
 }
 
 /* That it does what the model does; a room may be too small for the response. */
 static void check_done(stun_types_answer answer, const stun_types_turn_action *action,
                        const uint8_t *room, size_t size, const model_turn_done *done) {
     bool is_response = done->action.kind == STUN_TYPES_TURN_RESPONSE;
-    size_t i;
-    HOLDS(action->took == done->action.took);
-    if (done->opened != NULL) {
-        HOLDS(model_is_same_address(&action->peer, &done->action.peer));
-        for (i = 0; i < MODEL_TURN_ALLOCATIONS; i++)
-            HOLDS(&model.all[i] == done->opened || !model.all[i].takes_place
-                  || model.all[i].relay != action->relay);
-        done->opened->relay = action->relay;
-    }
+    check_opened(&action->ipv4, done->opened[0]);
+    check_opened(&action->ipv6, done->opened[1]);
     if (answer.code != STUN_TYPES_OK) {
         HOLDS(is_response);
         if (answer.code != STUN_TYPES_INVALID_DATA)
@@ -243,6 +297,7 @@ static void check_done(stun_types_answer answer, const stun_types_turn_action *a
     HOLDS(is_filled(room, size));
     HOLDS(action->at == done->action.at && action->length == done->action.length);
     HOLDS(action->relay == done->action.relay
+          && action->dont_fragment == done->action.dont_fragment
           && model_is_same_address(&action->peer, &done->action.peer));
 }
 
@@ -250,15 +305,11 @@ static void check_done(stun_types_answer answer, const stun_types_turn_action *a
 static stun_types_turn_ready ready_of(unsigned how, uint16_t port_of_next) {
     stun_types_turn_ready ready;
     memset(&ready, 0, sizeof ready);
-    ready.ipv4 = how % 16 != 15;
-    ready.ipv6 = how / 16 % 4 != 3;
-    if (how % 16 != 14) ready.any_ipv4 = own;
+    if (how % 16 < 14) ready.any_ipv4 = own;
     if (how % 16 < 12) ready.even_ipv4 = own;
-    if (how / 16 % 4 != 2) ready.any_ipv6 = ready.even_ipv6 = clients[2];
+    if (how / 16 % 4 < 2) ready.any_ipv6 = ready.even_ipv6 = clients[2];
     ready.any_ipv4.port = ready.even_ipv4.port = port_of_next;
     ready.any_ipv6.port = ready.even_ipv6.port = port_of_next;
-    if (ready.ipv4 == 0) memset(&ready.any_ipv4, 0, 2 * sizeof ready.any_ipv4);
-    if (ready.ipv6 == 0) memset(&ready.any_ipv6, 0, 2 * sizeof ready.any_ipv6);
     return ready;
 }
 
@@ -290,19 +341,23 @@ static void check_client(source *from, const stun_types_five_tuple *tuple, uint1
                                     &pairs[NO_KEY].key, &pairs[NO_KEY].key, room, size, action);
     if (how / 64 == 3 && done.is_request) {
         /* (nobody's keys, as for an unknown user: a request that is accepted changes the model) */
-        HOLDS(action->kind != STUN_TYPES_TURN_NEEDS_KEY && action->took == 0);
+        HOLDS(action->kind != STUN_TYPES_TURN_NEEDS_KEY && action->ipv4.took == 0 && action->ipv6.took == 0);
+        take_ended(action->ended, 3);
         HOLDS(answer.code != STUN_TYPES_OK || (action->code >= 400 && action->code <= 438));
         memset(room, FILL, size);
         answer = stun_types_turn_client(server, now, datagram_of(tuple, &ready, false),
                                         &pairs[NO_KEY].key, &pairs[NO_KEY].key, room, size, action);
     }
     if (answer.code == STUN_TYPES_OK && action->kind == STUN_TYPES_TURN_NEEDS_KEY) {
-        HOLDS(done.is_request && is_filled(room, size) && action->took == 0 && action->code == 0);
+        HOLDS(done.is_request && is_filled(room, size) && action->ended == 0 && action->code == 0);
+        HOLDS(action->ipv4.took == 0 && action->ipv6.took == 0);
         answer = stun_types_turn_client(
             server, now, datagram_of(tuple, &ready, true),
             user < MODEL_TURN_USERS ? &keys[user][0]->key : &pairs[NO_KEY].key,
             user < MODEL_TURN_USERS ? &keys[user][1]->key : &pairs[NO_KEY].key, room, size, action);
     }
+    take_ended(action->ended, 1 + how % 3);
+    check_ended();
     check_done(answer, action, room, size, &done);
 }
 
@@ -354,14 +409,74 @@ static void check_peer(source *from) {
           && model_is_same_address(&told->to.server, &expected.to.server));
     HOLDS(is_filled(head, size - told->head_length));
     if (told->sends == 1) check_sent(head + size - told->head_length, length, peer, channel, told);
+    take_ended(told->ended, 2);
+    check_ended();
 }
 
-static void check_poll(source *from) {
-    size_t room = take(from) % 4, i, ended = model_turn_ended(&model, now);
-    uint64_t *relays = place(room * sizeof *relays);
-    HOLDS(stun_types_turn_poll(server, now, relays, room) == (ended < room ? ended : room));
-    for (i = 0; i < room && i < ended; i++) HOLDS(model_turn_report(&model, relays[i]));
-    for (; i < room; i++) HOLDS(is_filled(&relays[i], sizeof relays[i]));
+/* What has expired ends, and a relayed address, or all of a user. */
+static void check_ends(source *from) {
+    unsigned how = take(from), which = how / 4 % MODEL_TURN_ALLOCATIONS;
+    size_t count;
+    if (how % 8 == 1) {
+        const uint64_t relay = model.all[which].relay + (how / 64 == 3);
+        model_turn_end(&model, now, relay);
+        count = stun_types_turn_end(server, now, relay);
+    } else if (how % 8 == 2) {
+        const unsigned user = which % (MODEL_TURN_USERS + 1);
+        const model_text name = user < MODEL_TURN_USERS ? model.users[user].name : model.realm;
+        const model_text texts[] = {name, model.realm};
+        stun_types_hash *hash = NEW(stun_types_hash);
+        model_digest(STUN_TYPES_PASSWORD_SHA256, texts, 2, hash->bytes);
+        model_turn_end_user(&model, now, user);
+        count = stun_types_turn_end_user(server, now, hash);
+    } else {
+        model_turn_poll(&model, now);
+        count = stun_types_turn_poll(server, now);
+    }
+    take_ended(count, 1 + how % 3);
+    check_ended();
+}
+
+/* Other rules, which deny one address and port, other limits, or another server; no rules and no server that name
+   a family that isn't one. */
+static void check_changes(source *from) {
+    unsigned how = take(from);
+    stun_types_address address = how / 2 % 8 == 7 ? own : peers[how / 2 % 8];
+    if (how / 16 == 15) address.family = (uint16_t)(1 + how % 3);
+    if (how % 2 == 0) {
+        stun_types_turn_settings settings = model.settings;
+        settings.listening = copy_of(&address, sizeof address);
+        const stun_types_answer told = stun_types_turn_set_rules(server, copy_of(&settings, sizeof settings));
+        if (how / 16 != 15) model.listening = address;
+        HOLDS(is_same(told, how / 16 == 15 ? BAD_ARGUMENT : FINE));
+    } else if (how / 16 < 4) {
+        stun_types_turn_limits limits = model.settings.limits;
+        limits.relays = limits.reservations = take(from); /* (not read) */
+        limits.relays_per_user = how / 2 % 3;
+        limits.ipv4 = how / 2 % 8 != 4;
+        limits.channel_permits = how / 2 % 2;
+        SUCCEEDS(stun_types_turn_set_limits(server, copy_of(&limits, sizeof limits)));
+        limits.relays = model.settings.limits.relays;
+        limits.reservations = model.settings.limits.reservations;
+        model.settings.limits = limits;
+    } else {
+        if (how / 16 == 14) memset(&address, 0, sizeof address);
+        const stun_types_answer told = stun_types_turn_set_alternate(server, copy_of(&address, sizeof address));
+        if (how / 16 != 15) model.alternate = address;
+        HOLDS(is_same(told, how / 16 == 15 ? BAD_ARGUMENT : FINE));
+    }
+}
+
+/* How many there are, and when the next expires. */
+static void check_left(void) {
+    uint64_t due = UINT64_MAX;
+    size_t i, count = 0;
+    for (i = 0; i < MODEL_TURN_ALLOCATIONS; i++) {
+        if (!model.all[i].takes_place) continue;
+        count++;
+        if (model.all[i].until < due) due = model.all[i].until;
+    }
+    HOLDS(stun_types_turn_count(server) == count && stun_types_turn_next_due(server) == due);
 }
 
 /* Addresses of any families, and any transport: if there is none such, nothing is done. */
@@ -379,13 +494,13 @@ static void check_arguments(source *from, const stun_types_five_tuple *tuple) {
     uint16_t *field = fields[how % COUNT(fields)];
     if (how % 16 != 9) *field = (uint16_t)(how / 16 == 15 ? take_two(from) | 8 : *field == 6 && how % 2 == 1 ? 5 : 3);
     datagram = *datagram_of(&other, &ready, how % 3 == 0);
-    if (how % 16 == 9) datagram.reserved = (uint64_t)1 << take(from) % 64;
+    if (how % 16 == 9) datagram.reserved = (uint32_t)1 << take(from) % 32;
     HOLDS(is_same(stun_types_turn_client(server, now, copy_of(&datagram, sizeof datagram),
                                          &pairs[LOGIN_MD5].key, &pairs[LOGIN_SHA256].key, room,
                                          RESPONSE, action),
                   BAD_ARGUMENT));
-    HOLDS(is_filled(room, RESPONSE) && action->kind == STUN_TYPES_TURN_NOTHING
-          && action->took == 0);
+    HOLDS(is_filled(room, RESPONSE) && action->kind == STUN_TYPES_TURN_NOTHING && action->ended == 0
+          && action->ipv4.took == 0 && action->ipv6.took == 0);
 }
 
 static void take_moment(source *from) {
@@ -406,12 +521,16 @@ static bool begin(source *from) {
     memset(&model, 0, sizeof model);
     memset(&settings, 0, sizeof settings);
     settings.window = how / 64 == 1 ? 30 : 600;
-    settings.allocations = 1 + how % MODEL_TURN_ALLOCATIONS;
-    settings.of_user = 1 + how / 4 % 2;
-    settings.greatest_lifetime = how / 8 % 2 == 0 ? 3600 : 0;
+    settings.limits = stun_types_turn_limits_default();
+    settings.limits.relays = 1 + how % MODEL_TURN_ALLOCATIONS;
+    settings.limits.relays_per_user = 1 + how / 4 % 2;
+    settings.limits.greatest_lifetime = how / 8 % 2 == 0 ? 3600 : 0;
+    settings.limits.ipv4 = more % 32 != 17;
+    settings.limits.ipv6 = more % 32 != 18;
     settings.features = more % 4;
-    settings.channel_permits = how / 16 % 2;
-    settings.old_channels = how / 32 % 2;
+    settings.limits.dont_fragment = more / 64 % 2;
+    settings.limits.channel_permits = how / 16 % 2;
+    settings.limits.old_channels = how / 32 % 2;
     keys[1][0] = &pairs[how / 64 == 2 ? PASSWORD_SHA1 : how / 64 == 3 ? PASSWORD_SHA256 : PASSWORD];
     keys[1][1] = &pairs[LONG_KEY];
     if (more / 4 % 8 == 7) settings.policy = *take_policy(from);
@@ -476,8 +595,10 @@ static void check_event(source *from) {
         take_bytes(from, message.bytes, message.length);
         check_client(from, &tuple, port);
     } else if (kind < 26) check_peer(from);
-    else if (kind < 29) check_poll(from);
+    else if (kind < 29) check_ends(from);
+    else if (kind == 29) check_changes(from);
     else take_moment(from);
+    check_left();
     port = (uint16_t)(port + 2);
 }
 

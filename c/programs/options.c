@@ -17,9 +17,19 @@ int say(int status, const char *format, ...) {
     return status;
 }
 
-bool read_seconds(const char *text, uint64_t *milliseconds) {
+int end_output(void) {
+    if (fflush(stdout) == 0 && !ferror(stdout)) return STATUS_DONE;
+    return say(STATUS_BROKEN, "standard output: %s", strerror(errno));
+}
+
+int print_text(const char *text) {
+    fputs(text, stdout);
+    return end_output();
+}
+
+bool read_seconds(const char *text, uint32_t most, uint64_t *milliseconds) {
     uint32_t seconds;
-    if (!read_number(text, 1, 3600, &seconds)) return false;
+    if (!read_number(text, 1, most, &seconds)) return false;
     *milliseconds = (uint64_t)seconds * 1000;
     return true;
 }
@@ -60,7 +70,7 @@ bool take_option(int letter, const char *value) {
     case 'v': return asked.verbose = true;
     case 'u': asked.user = value; return *value != 0 && strlen(value) <= MOST_USER;
     case 'f': asked.password_file = value; return *value != 0;
-    case 'w': return read_seconds(value, &asked.wait);
+    case 'w': return read_seconds(value, 3600, &asked.wait);
     default: return false;
     }
 }

@@ -35,6 +35,7 @@ typedef struct {
     const char *password_file;
     char password[PASSWORD_ROOM];
     uint64_t wait; /* milliseconds for a response; 0: as long as the transaction says */
+    stun_types_stream_kind carries; /* what comes over TCP */
 } options;
 
 extern options asked;
@@ -50,8 +51,8 @@ extern options asked;
 /* Takes one of them. Returns whether it is one that is right. */
 bool take_option(int letter, const char *value);
 
-/* Reads seconds, 1 to 3600, as milliseconds. */
-bool read_seconds(const char *text, uint64_t *milliseconds);
+/* Reads seconds, 1 to most, as milliseconds. */
+bool read_seconds(const char *text, uint32_t most, uint64_t *milliseconds);
 
 /* Reads HOST, HOST:PORT, [ADDRESS] or [ADDRESS]:PORT; without a port, the target's stays. An IPv6
  * address without brackets has no port. */
@@ -63,70 +64,62 @@ int read_password(void);
 /* Prints a line to standard error, and returns the status. */
 int say(int status, const char *format, ...) __attribute__((format(printf, 2, 3)));
 
-/* ---- A connection (connection.c) ------------------------------------------------------------- */
+/* Flushes standard output. Returns the status. */
+int end_output(void);
+int print_text(const char *text); /* and flushes it */
+
+/* ---- The connection to the server, and messages (connection.c) -------------------------------- */
 
 typedef struct {
     uint8_t bytes[MESSAGE_ROOM];
     size_t length;
 } message;
 
-typedef struct {
-    struct addrinfo *found, *next; /* the addresses of the host, and the one to ask next */
-    int socket;                    /* -1: none is connected */
-    stun_types_stream stream;
-    uint8_t gathered[MESSAGE_ROOM]; /* the message of the stream that is coming */
-    uint8_t piece[4096];            /* what was read of the stream, and not yet taken */
-    size_t piece_at, piece_end;
-} connection;
+/* What is sent, and what was received last. */
+extern message request, response;
 
 uint64_t milliseconds(void);
 
 /* Finds the addresses of a host. Returns the status. */
-int find_host(const target *host, int type, struct addrinfo **found);
+int find_host(const target *host, int family, int type, struct addrinfo **addresses);
 
-/* Connects to the next address that takes it. False: there is none, and errno says why not. */
-bool connect_next(connection *to);
+/* Finds the server, and connects to the first of its addresses that takes it. Returns the status. */
+int open_server(void);
 
-void disconnect(connection *from);
+/* Connects to the next address. False: there is none, and errno says why not. */
+bool connect_next(void);
 
-/* Sends a message, all of it. A datagram that the system has no room for counts as lost. */
-bool send_message(connection *by, const message *sent);
+/* Connects to another server, or to the same one from another port. Returns the status. */
+int move_to(const stun_types_address *to);
+
+/* The address of the server that is connected; false: there is none any more. */
+bool find_server(stun_types_address *address);
+
+void close_server(void);
+
+/* Draws a transaction ID that nobody can guess. */
+bool new_id(stun_types_id *id);
+
+/* Sends the request, all of it. A datagram that the system has no room for counts as lost. False: it can't be
+ * sent, and errno says why not. */
+bool send_request(void);
 
 enum { RECEIVED, NOTHING_YET, FAILED };
 
 /* Waits for a message until a moment. */
-int receive_until(connection *by, message *got, uint64_t until);
+int receive_until(uint64_t until);
 
-/* ---- Requests (requests.c) ------------------------------------------------------------------- */
+/* Prints the peer that an error response is about, if it has a name, its code and its reason to standard error.
+ * Returns the status. */
+int tell_error(const char *host, uint32_t number);
 
-/* The message that is sent, and the last response. */
-extern message request, response;
-extern connection server;
+/* ---- Binding requests (requests.c) ----------------------------------------------------------- */
 
-/* Adds to the request what it asks. */
-typedef bool write_body(void);
+/* Sends one, with credentials if the server asks for them, and to other servers if one sends the client to them,
+ * until a success response is taken. Returns the status; if it isn't STATUS_DONE, the reason was printed. */
+int ask(void);
 
-/* Begins a message with a transaction ID that nobody can guess. */
-bool begin_message(stun_types_class message_class, stun_types_method method);
-
-/* Finds the server. Returns the status. */
-int open_server(void);
-
-/* Sends a request, with credentials if the server asks for them, until a success response is taken.
- * understood are the types below 0x8000 that the response may have, besides those of RFC 8489.
- * Returns the status; if it isn't STATUS_DONE, the reason was printed. */
-int ask(stun_types_method method, write_body *write, const uint16_t *understood, size_t count);
-
-void close_server(void);
-
-/* Prints a message to standard error, if that is asked for. */
-void show(const char *direction, const message *shown);
-
-/* Reads the address in an XORed attribute of the last response. */
+/* Reads the address in an XORed attribute of the response. */
 bool find_address(uint16_t type, stun_types_address *address);
-
-/* Flushes standard output. Returns the status. */
-int end_output(void);
-int print_text(const char *text); /* and flushes it */
 
 #endif

@@ -1,11 +1,9 @@
-/* Requests, with the credentials that the server asks for (RFC 8489, sections 6 and 9). */
+/* A binding request, with the credentials that the server asks for (RFC 8489, sections 6 and 9). */
 #include "program.h"
 
-#include <sys/random.h>
-
 enum {
-    MOST_REQUESTS = 4, /* of one question, each as the answer to the last challenge */
-    TEXT_ROOM = 1 << 18
+    MOST_REQUESTS = 4, /* each as the answer to the last challenge */
+    MOST_SERVERS = 5   /* of which one sends it to the next */
 };
 
 /* The password algorithms that the programs know. */
@@ -13,8 +11,6 @@ enum { COUNT_SUPPORTED = 2 };
 static const uint16_t SUPPORTED[COUNT_SUPPORTED] = {STUN_TYPES_PASSWORD_SHA256,
                                                     STUN_TYPES_PASSWORD_MD5};
 
-message request, response;
-connection server = {.socket = -1};
 static stun_types_key key;
 /* The response whose challenge requests answer, and that challenge. */
 static message challenged;
@@ -31,55 +27,15 @@ static bool is_fine(stun_types_answer answer) {
     return answer.code == STUN_TYPES_OK;
 }
 
-void show(const char *direction, const message *shown) {
-    static char text[TEXT_ROOM];
-    size_t length = 0;
-    if (!asked.verbose) return;
-    stun_types_answer answer =
-        stun_types_print(shown->bytes, shown->length, text, sizeof text, &length);
-    if (is_fine(answer)) {
-        fprintf(stderr, "%s %.*s\n", direction, (int)length, text);
-    } else {
-        const char *why = stun_types_status_text(answer.code);
-        fprintf(stderr, "%s %zu bytes: %s\n", direction, shown->length, why);
-    }
-}
-
-int end_output(void) {
-    if (fflush(stdout) == 0 && !ferror(stdout)) return STATUS_DONE;
-    return say(STATUS_BROKEN, "standard output: %s", strerror(errno));
-}
-
-int print_text(const char *text) {
-    fputs(text, stdout);
-    return end_output();
-}
-
-int open_server(void) {
-    key = stun_types_key_none();
-    int status = find_host(&asked.server, asked.reliable ? SOCK_STREAM : SOCK_DGRAM, &server.found);
-    if (status != STATUS_DONE) return status;
-    server.next = server.found;
-    if (connect_next(&server)) return STATUS_DONE;
-    return say(STATUS_SILENT, "%s: %s", asked.server.host, strerror(errno));
-}
-
-void close_server(void) {
-    disconnect(&server);
-    if (server.found != NULL) freeaddrinfo(server.found);
-    server.found = server.next = NULL;
-    stun_types_key_free(&key);
-    explicit_bzero(asked.password, sizeof asked.password);
-}
-
 /* ---- What is sent ---------------------------------------------------------------------------- */
 
-bool begin_message(stun_types_class message_class, stun_types_method method) {
+static bool begin_request(void) {
     stun_types_id id;
-    uint16_t type = stun_types_message_type(message_class, method);
-    if (getrandom(id.bytes, sizeof id.bytes, 0) != (ssize_t)sizeof id.bytes) return false;
-    return is_fine(
-        stun_types_begin(request.bytes, sizeof request.bytes, type, &id, &request.length));
+    return new_id(&id) &&
+           is_fine(stun_types_begin(
+               request.bytes, sizeof request.bytes,
+               stun_types_message_type(STUN_TYPES_CLASS_REQUEST, STUN_TYPES_METHOD_BINDING), &id,
+               &request.length));
 }
 
 static bool add_fingerprint(void) {
@@ -113,9 +69,8 @@ static stun_types_protection protection(void) {
     return challenged.length > 0 ? STUN_TYPES_LONG_TERM : STUN_TYPES_FIRST_LONG_TERM;
 }
 
-static bool write_request(stun_types_method method, write_body *write) {
-    if (!begin_message(STUN_TYPES_CLASS_REQUEST, method)) return false;
-    if (write != NULL && !write()) return false;
+static bool write_request(void) {
+    if (!begin_request()) return false;
     switch (protection()) {
     case STUN_TYPES_SHORT_TERM: return sign_short_term();
     case STUN_TYPES_LONG_TERM: return sign_long_term();
@@ -127,16 +82,13 @@ static bool write_request(stun_types_method method, write_body *write) {
 
 /* Sends, or waits, as the transaction wants it. False: the connection failed. */
 static bool act(stun_types_transaction *transaction, const stun_types_action *action, uint64_t end,
-                const uint16_t *understood, size_t count, stun_types_received *taken) {
-    if (action->kind == STUN_TYPES_SEND_NOW) {
-        show(">", &request);
-        return send_message(&server, &request);
-    }
+                stun_types_received *taken) {
+    if (action->kind == STUN_TYPES_SEND_NOW) return send_request();
     uint64_t until = action->until < end ? action->until : end;
-    int got = receive_until(&server, &response, until);
+    int got = receive_until(until);
     if (got != RECEIVED) return got == NOTHING_YET;
     if (!is_fine(stun_types_transaction_receive(transaction, &key, response.bytes, response.length,
-                                                understood, count, taken))) {
+                                                NULL, 0, taken))) {
         taken->kind = STUN_TYPES_NOT_FOR_THIS;
     }
     if (taken->kind == STUN_TYPES_NOT_FOR_THIS) return true;
@@ -170,16 +122,13 @@ static int tell_end(stun_types_end end, const stun_types_received *taken) {
 }
 
 /* Carries a transaction through at one address: its end, and what was taken. */
-static stun_types_end carry(stun_types_transaction *transaction, const uint16_t *understood,
-                            size_t count, stun_types_received *taken) {
+static stun_types_end carry(stun_types_transaction *transaction, stun_types_received *taken) {
     uint64_t end = asked.wait != 0 ? milliseconds() + asked.wait : UINT64_MAX;
     stun_types_action action;
     while (is_fine(stun_types_transaction_poll(transaction, milliseconds(), &action))) {
         if (action.kind == STUN_TYPES_ENDED) return action.end;
         if (milliseconds() >= end) return STUN_TYPES_CANCELLED;
-        if (!act(transaction, &action, end, understood, count, taken)) {
-            return STUN_TYPES_TRANSPORT_FAILED;
-        }
+        if (!act(transaction, &action, end, taken)) return STUN_TYPES_TRANSPORT_FAILED;
         if (taken->kind >= STUN_TYPES_TAKEN_SUCCESS) return STUN_TYPES_ANSWERED;
     }
     return STUN_TYPES_RESPONSE_REFUSED;
@@ -187,7 +136,7 @@ static stun_types_end carry(stun_types_transaction *transaction, const uint16_t 
 
 /* Sends the request until a response is taken. An address that nobody listens at is given up for the
  * next one of the host. */
-static int exchange(const uint16_t *understood, size_t count, stun_types_received *taken) {
+static int exchange(stun_types_received *taken) {
     const stun_types_schedule schedule = stun_types_schedule_default();
     stun_types_transaction transaction;
     stun_types_end end;
@@ -198,8 +147,8 @@ static int exchange(const uint16_t *understood, size_t count, stun_types_receive
             &transaction, request.bytes, request.length, &schedule,
             asked.reliable ? STUN_TYPES_TCP : STUN_TYPES_UDP, protection(), &key, milliseconds());
         if (!is_fine(answer)) return say(STATUS_BROKEN, "%s", stun_types_status_text(answer.code));
-        end = carry(&transaction, understood, count, taken);
-    } while (end == STUN_TYPES_TRANSPORT_FAILED && !heard && connect_next(&server));
+        end = carry(&transaction, taken);
+    } while (end == STUN_TYPES_TRANSPORT_FAILED && !heard && connect_next());
     return end == STUN_TYPES_ANSWERED ? STATUS_DONE : tell_end(end, taken);
 }
 
@@ -209,26 +158,6 @@ bool find_address(uint16_t type, stun_types_address *address) {
     stun_types_attribute found;
     return stun_types_find(response.bytes, response.length, type, &found) &&
            is_fine(stun_types_read_xor_address(response.bytes, response.length, &found, address));
-}
-
-/* Prints the code and the reason of the error response, which is a stranger's text: what isn't
- * printable ASCII is left out. */
-static int tell_error(uint32_t number) {
-    stun_types_attribute found;
-    uint16_t code;
-    size_t at = 0, length = 0, kept = 0;
-    char reason[256];
-    if (stun_types_find(response.bytes, response.length, STUN_TYPES_ATTRIBUTE_ERROR_CODE, &found) &&
-        !is_fine(stun_types_read_error(response.bytes, response.length, &found, &code, &at,
-                                       &length))) {
-        length = 0;
-    }
-    for (size_t i = at; i < at + length && kept < sizeof reason - 1; i++) {
-        uint8_t byte = response.bytes[i];
-        if (byte >= 0x20 && byte < 0x7F) reason[kept++] = (char)byte;
-    }
-    reason[kept] = 0;
-    return say(STATUS_REFUSED, "error %u%s%s", (unsigned)number, kept > 0 ? " " : "", reason);
 }
 
 /* Keeps the challenge of the response, and makes its key. Returns what is wrong with it. */
@@ -251,21 +180,53 @@ static bool asks_for_login(const stun_types_received *taken) {
             taken->number == STUN_TYPES_CODE_STALE_NONCE);
 }
 
-int ask(stun_types_method method, write_body *write, const uint16_t *understood, size_t count) {
+/* Whether an authentic response sends the client to another server (RFC 8489, section 10), of the same family,
+ * which it hasn't asked yet. */
+static bool find_alternate(const stun_types_received *taken, stun_types_address *alternate) {
+    static stun_types_address seen[MOST_SERVERS];
+    static size_t seen_count;
+    stun_types_attribute found;
+    bool is_sent = taken->kind == STUN_TYPES_TAKEN_ERROR && taken->number == STUN_TYPES_CODE_TRY_ALTERNATE &&
+                   taken->algorithm != 0;
+    if (!is_sent || seen_count + 1 >= MOST_SERVERS || !find_server(&seen[seen_count++]) ||
+        !stun_types_find(response.bytes, response.length, STUN_TYPES_ATTRIBUTE_ALTERNATE_SERVER, &found) ||
+        !is_fine(stun_types_read_address(response.bytes, response.length, &found, alternate))) {
+        return false;
+    }
+    for (size_t i = 0; i < seen_count; i++) {
+        if (memcmp(alternate, &seen[i], sizeof *alternate) == 0) return false;
+    }
+    return alternate->family == seen[seen_count - 1].family;
+}
+
+static int ask_all(void) {
     stun_types_received taken;
+    stun_types_address alternate;
     for (int sent = 1;; sent++) {
-        if (!write_request(method, write)) {
+        if (!write_request()) {
             return say(STATUS_BROKEN, "the request can't be made: %s", stun_types_status_text(refusal));
         }
-        int status = exchange(understood, count, &taken);
+        int status = exchange(&taken);
         if (status != STATUS_DONE) return status;
         if (taken.kind == STUN_TYPES_TAKEN_SUCCESS) return STATUS_DONE;
-        if (!asks_for_login(&taken) || sent == MOST_REQUESTS) return tell_error(taken.number);
+        if (find_alternate(&taken, &alternate)) {
+            if ((status = move_to(&alternate)) != STATUS_DONE) return status;
+            sent = 0;
+            continue;
+        }
+        if (!asks_for_login(&taken) || sent == MOST_REQUESTS) return tell_error("", taken.number);
         stun_types_answer answer = take_challenge();
-        if (answer.code == STUN_TYPES_SAME_CREDENTIALS) return tell_error(taken.number);
+        if (answer.code == STUN_TYPES_SAME_CREDENTIALS) return tell_error("", taken.number);
         if (!is_fine(answer)) {
             return say(answer.code == STUN_TYPES_OUT_OF_MEMORY ? STATUS_BROKEN : STATUS_REFUSED, "%s",
                        stun_types_status_text(answer.code));
         }
     }
+}
+
+int ask(void) {
+    key = stun_types_key_none();
+    int status = ask_all();
+    stun_types_key_free(&key);
+    return status;
 }

@@ -43,9 +43,10 @@ static int tell_address(void) {
 static int run(void) {
     int status = read_password();
     if (status == STATUS_DONE) status = open_server();
-    if (status == STATUS_DONE) status = ask(STUN_TYPES_METHOD_BINDING, NULL, NULL, 0);
+    if (status == STATUS_DONE) status = ask();
     if (status == STATUS_DONE) status = tell_address();
     close_server();
+    explicit_bzero(asked.password, sizeof asked.password);
     return status;
 }
 

@@ -1,50 +1,88 @@
-/* stun-turn-client: allocates a relayed address at a TURN server (RFC 8656), sends to a peer from it,
- * refreshes the allocation, and deletes it. stun-turn-client.1 says how it is used. */
+/* stun-turn-client: allocates a relayed address at a TURN server (RFC 8656), keeps it, and sends to peers from it.
+ * stun-turn-client.1 says how it is used. */
 #include "program.h"
+
+#include <signal.h>
 
 static const char help[] =
     "usage: stun-turn-client [OPTION].. HOST[:PORT]\n"
     "\n"
-    "Tries a TURN server: allocates a relayed address over UDP, sends to a peer from it, refreshes\n"
-    "the allocation and deletes it. HOST and PORT are those of stun-client.\n"
+    "Tries a TURN server: allocates a relayed address over UDP, sends to peers from it, keeps it as\n"
+    "long as it is asked to, and deletes it. HOST and PORT are those of stun-client.\n"
     "\n"
+    "  -u, --user NAME           the long-term credentials: this user, and the password\n"
+    "  -f, --password-file FILE  read the password from the first line of FILE, - for standard\n"
+    "                            input; otherwise it is in the variable STUN_PASSWORD\n"
     "  -p, --peer HOST:PORT      permit this peer, and send it a datagram by the server\n"
+    "  -c, --channel HOST:PORT   the same on a channel; -p and -c may be given 32 times in all\n"
     "  -d, --data TEXT           what is sent; otherwise hello\n"
-    "  -r, --receive SECONDS     wait so long for a datagram of the peer, and print it\n"
+    "  -i, --interval SECONDS    send it again and again, at this interval\n"
+    "  -r, --receive SECONDS     wait so long for a datagram of each peer\n"
+    "  -H, --hold SECONDS        keep the allocation so long, up to a week\n"
     "  -l, --lifetime SECONDS    ask for this lifetime, 1 to 3600; otherwise 600\n"
     "  -4, -6                    ask the server over IPv4, or over IPv6, alone\n"
     "  -t, --tcp                 ask the server over TCP\n"
-    "  -u, --user NAME           use long-term credentials, if the server asks for them\n"
-    "  -f, --password-file FILE  read the password from the first line of FILE, - for standard\n"
-    "                            input; otherwise it is in the variable STUN_PASSWORD\n"
-    "  -w, --wait SECONDS        wait so long for a response, 1 to 3600; otherwise 39.5 s\n"
+    "  -w, --wait SECONDS        wait so long for a response, 1 to 3600; otherwise 40 s\n"
     "  -v, --verbose             print each message to standard error\n"
     "  -h, --help; -V, --version\n"
     "\n"
     "Status 0: all was done. 1: the server refused. 2: wrong arguments. 3: it can't read or write, or\n"
-    "has no memory. 4: no response in time, none that is authentic, or nothing of the peer.\n";
+    "has no memory. 4: no response in time, none that is authentic, or nothing of a peer.\n";
 
 static const struct option words[] = {COMMON_WORDS,
                                       {"peer", required_argument, NULL, 'p'},
+                                      {"channel", required_argument, NULL, 'c'},
                                       {"data", required_argument, NULL, 'd'},
+                                      {"interval", required_argument, NULL, 'i'},
                                       {"receive", required_argument, NULL, 'r'},
+                                      {"hold", required_argument, NULL, 'H'},
                                       {"lifetime", required_argument, NULL, 'l'},
                                       {NULL, 0, NULL, 0}};
 
-/* The types of TURN that a response may have. */
-enum { COUNT_UNDERSTOOD = 2, UDP = 17, IPV6 = 2 };
-static const uint16_t UNDERSTOOD[COUNT_UNDERSTOOD] = {STUN_TYPES_ATTRIBUTE_XOR_RELAYED_ADDRESS,
-                                                      STUN_TYPES_ATTRIBUTE_LIFETIME};
+enum { MOST_PEERS = 32, MOST_HOLD = 604800, KEPT = 60000 };
+static const uint64_t NEVER = UINT64_MAX, MILLISECOND = 1000000;
 
-static target peer_name;
-static stun_types_address peer;
+/* Moments are milliseconds. */
+typedef struct {
+    target name;
+    bool binds; /* data goes to it on a channel */
+    stun_types_address address;
+    stun_types_allocation_change last; /* what was printed of it */
+    int status;       /* STATUS_DONE, unless the client has given it up */
+    bool is_served;   /* data was sent to it */
+    bool has_replied; /* data came from its IP address */
+    uint64_t send_at; /* when data goes to it, as soon as it may */
+} peer;
+
+static peer peers[MOST_PEERS];
+static size_t peer_count;
 static const char *data = "hello";
-static uint64_t receive_for; /* milliseconds; 0: nothing is received */
+static uint64_t interval, receive_for, hold_for; /* 0: none */
 static uint32_t lifetime = 600;
-static bool gone; /* the server no longer responds */
+
+static stun_types_allocation client = STUN_TYPES_ALLOCATION_INIT;
+static stun_types_allocation_attempt attempt;
+static stun_types_allocation_change end; /* of the client; before it of the kind 0 */
+static uint64_t now, wake;               /* wake: when the client has something to do */
+static uint64_t allocated_at;            /* by this client; 0: not yet */
+static uint64_t hold_until, replies_until, give_up_at;
+static bool is_heard;   /* the server has sent something */
+static bool is_closing; /* the allocation is being deleted */
+static volatile sig_atomic_t is_interrupted; /* it is to be */
+static int outcome = STATUS_DONE;            /* of what came before that */
 
 static bool is_fine(stun_types_answer answer) { return answer.code == STUN_TYPES_OK; }
-static bool has_peer(void) { return peer_name.host[0] != 0; }
+
+/* Flushes standard output. If that fails, the allocation is deleted. */
+static void flush(void) {
+    if (outcome == STATUS_BROKEN || end_output() == STATUS_DONE) return;
+    outcome = STATUS_BROKEN;
+    is_interrupted = 1;
+}
+
+static int fails(stun_types_answer answer) {
+    return say(STATUS_BROKEN, "%s", stun_types_status_text(answer.code));
+}
 
 static int usage(void) {
     fprintf(stderr, "usage: stun-turn-client [OPTION].. HOST[:PORT]\n"
@@ -52,179 +90,384 @@ static int usage(void) {
     return STATUS_MISUSED;
 }
 
-/* ---- What requests ask ----------------------------------------------------------------------- */
+/* ---- A client of the library ----------------------------------------------------------------- */
 
-static bool add_lifetime(void) {
-    return is_fine(stun_types_add_u32(request.bytes, sizeof request.bytes, &request.length,
-                                      STUN_TYPES_ATTRIBUTE_LIFETIME, lifetime));
+static uint64_t nanoseconds(void) { return now * MILLISECOND; }
+
+static stun_types_answer want(stun_types_allocation_wish wish, const stun_types_address *of) {
+    give_up_at = asked.wait != 0 ? now + asked.wait : NEVER;
+    return stun_types_allocation_want(&client, nanoseconds(), wish, of);
 }
 
-static bool add_transport(void) {
-    return add_lifetime() &&
-           is_fine(stun_types_add_u8(request.bytes, sizeof request.bytes, &request.length,
-                                     STUN_TYPES_ATTRIBUTE_REQUESTED_TRANSPORT, UDP)) &&
-           (peer.family != 6 ||
-            is_fine(stun_types_add_u8(request.bytes, sizeof request.bytes, &request.length,
-                                      STUN_TYPES_ATTRIBUTE_REQUESTED_ADDRESS_FAMILY, IPV6)));
-}
-
-static bool add_peer(void) {
-    return is_fine(stun_types_add_xor_address(request.bytes, sizeof request.bytes, &request.length,
-                                              STUN_TYPES_ATTRIBUTE_XOR_PEER_ADDRESS, &peer));
-}
-
-/* ---- The steps ------------------------------------------------------------------------------- */
-
-/* Finds the peer's address. */
-static int find_peer(void) {
-    struct addrinfo *found;
-    struct sockaddr_storage address;
-    if (!has_peer()) return STATUS_DONE;
-    int family = asked.family;
-    asked.family = AF_UNSPEC; /* (that of the server) */
-    int status = find_host(&peer_name, SOCK_DGRAM, &found);
-    asked.family = family;
-    if (status != STATUS_DONE) return status;
-    memset(&address, 0, sizeof address);
-    memcpy(&address, found->ai_addr, found->ai_addrlen);
-    freeaddrinfo(found);
-    if (address_of(&address, &peer)) return STATUS_DONE;
-    return say(STATUS_BROKEN, "%s: no address", peer_name.host);
-}
-
-static bool read_lifetime(uint32_t *seconds) {
-    stun_types_attribute found;
-    return stun_types_find(response.bytes, response.length, STUN_TYPES_ATTRIBUTE_LIFETIME, &found) &&
-           is_fine(stun_types_read_u32(response.bytes, response.length, &found, seconds));
-}
-
-/* Prints the addresses and the lifetime of the allocation. */
-static int tell_allocation(void) {
-    stun_types_address relayed, mapped;
-    uint32_t seconds;
-    if (!find_address(STUN_TYPES_ATTRIBUTE_XOR_RELAYED_ADDRESS, &relayed) ||
-        !read_lifetime(&seconds)) {
-        return say(STATUS_REFUSED, "the response has no relayed address, or no lifetime");
+/* Asks for a permission or a channel of each peer that isn't given up. */
+static int want_peers(void) {
+    for (size_t i = 0; i < peer_count; i++) {
+        const peer *of = &peers[i];
+        if (of->status != STATUS_DONE) continue;
+        stun_types_answer answer = want(
+            of->binds ? STUN_TYPES_ALLOCATION_BIND : STUN_TYPES_ALLOCATION_PERMIT, &of->address);
+        if (!is_fine(answer)) return fails(answer);
     }
-    printf("relayed ");
-    print_address(stdout, &relayed);
-    if (find_address(STUN_TYPES_ATTRIBUTE_XOR_MAPPED_ADDRESS, &mapped)) {
-        printf("\nmapped ");
-        print_address(stdout, &mapped);
-    }
-    printf("\nlifetime %lu\n", (unsigned long)seconds);
-    return end_output();
+    return STATUS_DONE;
 }
 
-/* Sends the data in an indication, to which no response comes. */
-static int send_data(void) {
-    size_t room = sizeof request.bytes, *length = &request.length;
-    if (!begin_message(STUN_TYPES_CLASS_INDICATION, STUN_TYPES_METHOD_SEND) || !add_peer() ||
-        !is_fine(stun_types_add(request.bytes, room, length, STUN_TYPES_ATTRIBUTE_DATA, data,
-                                strlen(data)))) {
-        return say(STATUS_BROKEN, "the data can't be sent");
-    }
-    show(">", &request);
-    if (!send_message(&server, &request)) {
+/* Makes a client at the server that is connected. */
+static int begin_client(void) {
+    stun_types_allocation_settings settings;
+    memset(&settings, 0, sizeof settings);
+    if (!find_server(&settings.server)) {
         return say(STATUS_SILENT, "%s: %s", asked.server.host, strerror(errno));
     }
-    printf("sent %zu bytes to ", strlen(data));
-    print_address(stdout, &peer);
-    putchar('\n');
-    return end_output();
+    settings.transport = asked.reliable ? STUN_TYPES_TCP : STUN_TYPES_UDP;
+    settings.user = asked.user;
+    settings.user_length = strlen(asked.user);
+    settings.password = asked.password;
+    settings.password_length = strlen(asked.password);
+    settings.lifetime = lifetime;
+    settings.peers = MOST_PEERS;
+    settings.family = peer_count > 0 && peers[0].address.family == 6 ? 6 : 0;
+    settings.fingerprint = 1;
+    stun_types_answer answer = stun_types_allocation_new(&client, &settings);
+    attempt.server = settings.server;
+    for (size_t i = 0; i < peer_count; i++) {
+        peers[i].status = STATUS_DONE;
+        memset(&peers[i].last, 0, sizeof peers[i].last);
+    }
+    memset(&end, 0, sizeof end);
+    allocated_at = 0;
+    is_heard = false;
+    now = milliseconds();
+    if (is_fine(answer)) answer = want(STUN_TYPES_ALLOCATION_ALLOCATE, &settings.server);
+    return is_fine(answer) ? want_peers() : fails(answer);
 }
 
-/* Prints the data of what was received if it is an indication of the peer's. Returns whether it is. */
-static bool tell_data(void) {
-    const message *got = &response;
-    stun_types_header header;
+/* Begins again after the client has ended with a status: from another port after a 437, at another server after
+ * a 300. An allocation that was kept for a minute isn't one of a series that fails. */
+static int begin_again(int status) {
+    if (allocated_at != 0 && now - allocated_at >= KEPT) attempt.tries = attempt.servers = 0;
+    if (!stun_types_allocation_attempt_next(&attempt, &end)) return status;
+    status = move_to(&attempt.server);
+    return status == STATUS_DONE ? begin_client() : status;
+}
+
+/* ---- What has changed ------------------------------------------------------------------------ */
+
+static void print_line(const char *what, const stun_types_address *address) {
+    printf("%s ", what);
+    print_address(stdout, address);
+    putchar('\n');
+}
+
+/* Prints the LIFETIME of the response, which the client has taken. */
+static void print_lifetime(const char *what) {
     stun_types_attribute found;
-    stun_types_address from;
-    if (!is_fine(stun_types_parse(got->bytes, got->length)) ||
-        !is_fine(stun_types_read_header(got->bytes, got->length, &header)) ||
-        header.message_class != STUN_TYPES_CLASS_INDICATION ||
-        header.method != STUN_TYPES_METHOD_DATA ||
-        !find_address(STUN_TYPES_ATTRIBUTE_XOR_PEER_ADDRESS, &from) || from.family != peer.family ||
-        memcmp(from.octets, peer.octets, peer.family == 6 ? 16 : 4) != 0 ||
-        !stun_types_find(got->bytes, got->length, STUN_TYPES_ATTRIBUTE_DATA, &found)) {
-        return false;
+    uint32_t seconds = 0;
+    if (stun_types_find(response.bytes, response.length, STUN_TYPES_ATTRIBUTE_LIFETIME, &found) &&
+        is_fine(stun_types_read_u32(response.bytes, response.length, &found, &seconds))) {
+        printf("%s %lu\n", what, (unsigned long)seconds);
     }
-    printf("received %u bytes from ", (unsigned)found.length);
-    print_address(stdout, &from);
-    printf(": ");
-    for (size_t i = found.value_at; i < found.value_at + found.length; i++) {
-        uint8_t byte = got->bytes[i];
-        printf(byte >= 0x20 && byte < 0x7F && byte != '\\' ? "%c" : "\\x%02x", byte);
-    }
-    putchar('\n');
-    return true;
 }
 
-static int receive_data(void) {
-    uint64_t end = milliseconds() + receive_for;
-    while (milliseconds() < end) {
-        int got = receive_until(&server, &response, end);
-        if (got == FAILED) {
-            return say(STATUS_SILENT, "%s: %s", asked.server.host, strerror(errno));
+static void report_allocation(const stun_types_allocation_change *change) {
+    print_line("relayed", &change->relayed);
+    print_line("mapped", &change->mapped);
+    print_lifetime("lifetime");
+    allocated_at = now;
+    if (hold_until == 0) hold_until = now + hold_for;
+    give_up_at = asked.wait != 0 ? now + asked.wait : NEVER;
+}
+
+/* Prints that the client has given up a peer. If no response came, it is asked for again as long as the allocation
+ * is held. Peers with the same IP address have lost their permission, and are asked for. */
+static int report_over(peer *of, uint32_t code) {
+    const char *host = of->name.host;
+    of->status = code != 0 ? tell_error(host, code) : say(STATUS_SILENT, "%s: no response in time", host);
+    if (code == 0 && now < hold_until) of->status = STATUS_DONE;
+    return want_peers();
+}
+
+static bool is_granted(const stun_types_allocation_change *change) {
+    return change->kind == STUN_TYPES_ALLOCATION_PERMITTED || change->kind == STUN_TYPES_ALLOCATION_BOUND;
+}
+
+/* Prints what is granted for a peer, each time that it is, and when it has expired. */
+static int report_peer(const stun_types_allocation_change *change) {
+    peer *of = peers;
+    while (of < peers + peer_count - 1 && memcmp(&of->address, &change->peer, sizeof of->address) != 0) of++;
+    stun_types_allocation_change last = of->last;
+    of->last = *change;
+    if (change->kind == STUN_TYPES_ALLOCATION_PEER_OVER) return report_over(of, change->code);
+    if (is_granted(change) && (change->until > last.until || change->kind != last.kind)) {
+        bool is_bound = change->kind == STUN_TYPES_ALLOCATION_BOUND;
+        if (is_bound) printf("channel 0x%04x ", (unsigned)change->channel);
+        print_line(is_bound ? "of" : "permitted", &change->peer);
+    }
+    if (change->kind == STUN_TYPES_ALLOCATION_ASKED && is_granted(&last)) print_line("expired", &change->peer);
+    return STATUS_DONE;
+}
+
+/* Prints why the client has ended. Returns the status. */
+static int report_end(bool by_response) {
+    const char *host = asked.server.host;
+    switch (end.why) {
+    case STUN_TYPES_ALLOCATION_CLOSED:
+        if (!by_response) break;
+        puts("deleted");
+        flush();
+        return outcome;
+    case STUN_TYPES_ALLOCATION_REJECTED:
+    case STUN_TYPES_ALLOCATION_MOVED:
+        if (end.code != 0) return tell_error("", end.code);
+        return say(STATUS_REFUSED, "the response can't be used");
+    case STUN_TYPES_ALLOCATION_USELESS:
+        return say(STATUS_REFUSED, "the allocation can't be used: its lifetime, or its address family");
+    case STUN_TYPES_ALLOCATION_VIOLATED:
+        return say(STATUS_SILENT, "%s: no response is authentic", host);
+    default: break;
+    }
+    return say(STATUS_SILENT, "%s: no response in time", host);
+}
+
+/* Prints what has changed. Returns the status of the client. */
+static int report_changes(bool by_response) {
+    stun_types_allocation_change change;
+    int status = STATUS_DONE;
+    while (stun_types_allocation_changes(&client, &change)) {
+        switch (change.kind) {
+        case STUN_TYPES_ALLOCATION_ALLOCATED: report_allocation(&change); break;
+        case STUN_TYPES_ALLOCATION_REFRESHED: print_lifetime("refreshed"); break;
+        case STUN_TYPES_ALLOCATION_CLOSING: break;
+        case STUN_TYPES_ALLOCATION_OVER:
+            end = change;
+            status = report_end(by_response);
+            break;
+        default: status = report_peer(&change);
         }
-        if (got == RECEIVED && tell_data()) return end_output();
     }
-    return say(STATUS_SILENT, "nothing came from the peer in time");
-}
-
-static int ask_turn(stun_types_method method, write_body *write) {
-    int status = ask(method, write, UNDERSTOOD, COUNT_UNDERSTOOD);
-    gone = status == STATUS_SILENT;
+    flush();
     return status;
 }
 
-static int use_peer(void) {
-    int status = ask_turn(STUN_TYPES_METHOD_CREATE_PERMISSION, add_peer);
-    if (status == STATUS_DONE) status = send_data();
-    return status == STATUS_DONE && receive_for != 0 ? receive_data() : status;
-}
+/* ---- Data ------------------------------------------------------------------------------------ */
 
-static int refresh(void) {
-    uint32_t seconds;
-    int status = ask_turn(STUN_TYPES_METHOD_REFRESH, add_lifetime);
-    if (status != STATUS_DONE) return status;
-    if (lifetime == 0) {
-        puts("deleted");
-    } else if (read_lifetime(&seconds)) {
-        printf("refreshed %lu\n", (unsigned long)seconds);
-    } else {
-        return say(STATUS_REFUSED, "the response has no lifetime");
+/* Sends the data to a peer, if the server permits it by now. */
+static bool send_data(const peer *to) {
+    enum { HEAD = STUN_TYPES_ALLOCATION_HEAD };
+    static uint8_t head[HEAD];
+    stun_types_allocation_head around;
+    stun_types_id id;
+    size_t length = strlen(data);
+    if (!new_id(&id) || !is_fine(stun_types_allocation_send(&client, nanoseconds(), length, &to->address,
+                                                            &id, head, HEAD, &around)) || !around.sends) {
+        return false;
     }
-    return end_output();
+    memcpy(request.bytes, head + HEAD - around.length, around.length);
+    memcpy(request.bytes + around.length, data, length);
+    memset(request.bytes + around.length + length, 0, around.padding);
+    request.length = around.length + length + around.padding;
+    return send_request();
 }
 
-/* What was allocated is deleted, also if something between failed, unless the server is gone. */
+static void send_to_peers(void) {
+    for (size_t i = 0; i < peer_count; i++) {
+        peer *to = &peers[i];
+        if (to->status != STATUS_DONE || now < to->send_at || !send_data(to)) continue;
+        printf("sent %zu bytes to ", strlen(data));
+        print_address(stdout, &to->address);
+        putchar('\n');
+        if (!to->is_served) replies_until = now + receive_for;
+        to->is_served = true;
+        to->send_at = interval != 0 ? now + interval : NEVER;
+    }
+    flush();
+}
+
+static void print_data(const stun_types_allocation_data *shown) {
+    printf("received %zu bytes from ", shown->length);
+    print_address(stdout, &shown->peer);
+    printf(": ");
+    for (size_t i = shown->at; i < shown->at + shown->length; i++) {
+        uint8_t byte = response.bytes[i];
+        printf(byte >= 0x20 && byte < 0x7F && byte != '\\' ? "%c" : "\\x%02x", byte);
+    }
+    putchar('\n');
+    for (size_t i = 0; i < peer_count; i++) {
+        const stun_types_address *of = &peers[i].address;
+        if (memcmp(of->octets, shown->peer.octets, sizeof of->octets) == 0) peers[i].has_replied = true;
+    }
+}
+
+/* ---- The loop -------------------------------------------------------------------------------- */
+
+/* After the connection has failed: an address of which nothing came is given up for the next one of the host. A
+ * datagram counts as lost. */
+static int reconnect(void) {
+    if (!is_heard && connect_next()) return begin_client();
+    if (is_heard && !asked.reliable) return STATUS_DONE;
+    return say(STATUS_SILENT, "%s: %s", asked.server.host, strerror(errno));
+}
+
+/* Sends the requests that are due. */
+static int send_requests(void) {
+    stun_types_id id;
+    for (;;) {
+        if (!new_id(&id)) return say(STATUS_BROKEN, "no random bytes: %s", strerror(errno));
+        stun_types_answer answer =
+            stun_types_allocation_poll(&client, nanoseconds(), &id, request.bytes, sizeof request.bytes,
+                                       &request.length, &wake);
+        if (!is_fine(answer)) return fails(answer);
+        int status = report_changes(false);
+        if (request.length == 0 || end.kind != 0 || status != STATUS_DONE) return status;
+        if (!send_request()) return reconnect();
+    }
+}
+
+static int take_message(void) {
+    stun_types_allocation_data shown;
+    stun_types_answer answer = stun_types_allocation_datagram(
+        &client, nanoseconds(), &attempt.server, response.bytes, response.length, &shown);
+    if (!is_fine(answer)) return fails(answer);
+    is_heard = true;
+    give_up_at = asked.wait != 0 ? now + asked.wait : NEVER;
+    if (shown.shown) print_data(&shown);
+    return report_changes(true);
+}
+
+/* Whether data is still to be sent to a peer for the first time. */
+static bool has_to_send(void) {
+    for (size_t i = 0; i < peer_count; i++) {
+        if (peers[i].status == STATUS_DONE && !peers[i].is_served) return true;
+    }
+    return false;
+}
+
+/* Whether data of a peer is waited for. */
+static bool has_to_receive(void) {
+    for (size_t i = 0; i < peer_count && receive_for != 0 && now < replies_until; i++) {
+        if (peers[i].status == STATUS_DONE && !peers[i].has_replied) return true;
+    }
+    return false;
+}
+
+/* Deletes the allocation, if all is done. */
+static int close_client(void) {
+    bool is_done = allocated_at != 0 && now >= hold_until && !has_to_send() && !has_to_receive();
+    if (is_closing || (!is_done && !is_interrupted)) return STATUS_DONE;
+    is_closing = true;
+    for (size_t i = 0; i < peer_count && is_done; i++) {
+        const peer *of = &peers[i];
+        if (of->status != STATUS_DONE) outcome = of->status;
+        else if (receive_for != 0 && !of->has_replied) {
+            outcome = say(STATUS_SILENT, "%s: nothing came in time", of->name.host);
+        }
+    }
+    stun_types_answer answer = want(STUN_TYPES_ALLOCATION_CLOSE, &attempt.server);
+    return is_fine(answer) ? STATUS_DONE : fails(answer);
+}
+
+static uint64_t earlier(uint64_t moment, uint64_t other) {
+    return other > now && other < moment ? other : moment;
+}
+
+/* Waits for a message until there is something else to do. */
+static int receive_message(void) {
+    uint64_t until = wake == NEVER ? NEVER : wake / MILLISECOND + 1;
+    until = earlier(earlier(earlier(until, give_up_at), hold_until), replies_until);
+    for (size_t i = 0; i < peer_count; i++) until = earlier(until, peers[i].send_at);
+    int got = receive_until(until);
+    now = milliseconds();
+    if (got == FAILED) return reconnect();
+    return got == RECEIVED ? take_message() : STATUS_DONE;
+}
+
+/* Does what is to be done until the next message. */
+static int turn(void) {
+    now = milliseconds();
+    if (!is_closing) send_to_peers();
+    int status = close_client();
+    if (status == STATUS_DONE) status = send_requests();
+    if (status != STATUS_DONE || end.kind != 0) return status;
+    if (now >= give_up_at && (is_closing || allocated_at == 0 || has_to_send())) {
+        return say(STATUS_SILENT, "%s: no response in time", asked.server.host);
+    }
+    return receive_message();
+}
+
+/* Turns until the client has ended, and no other follows. */
 static int use_server(void) {
-    int status = ask_turn(STUN_TYPES_METHOD_ALLOCATE, add_transport);
-    if (status != STATUS_DONE) return status;
-    status = tell_allocation();
-    if (status == STATUS_DONE && has_peer()) status = use_peer();
-    if (status == STATUS_DONE) status = refresh();
-    if (gone) return status;
-    lifetime = 0;
-    int deleted = refresh();
-    return status == STATUS_DONE ? deleted : status;
+    int status = begin_client();
+    while (status == STATUS_DONE) {
+        status = turn();
+        if (end.kind != 0 && status == STATUS_DONE) return status; /* (it is closed) */
+        if (end.kind != 0) status = begin_again(status);
+    }
+    return status;
+}
+
+static void interrupt(int number) {
+    (void)number;
+    is_interrupted = 1;
+}
+
+/* Has signals that end a program close the client. */
+static void take_signals(void) {
+    struct sigaction action;
+    memset(&action, 0, sizeof action);
+    action.sa_handler = interrupt;
+    sigaction(SIGINT, &action, NULL);
+    sigaction(SIGTERM, &action, NULL);
+}
+
+/* Finds the addresses of the peers; those of a name are of the first one's family. */
+static int find_peers(void) {
+    int family = AF_UNSPEC;
+    for (size_t i = 0; i < peer_count; i++) {
+        struct addrinfo *found;
+        struct sockaddr_storage address;
+        int status = find_host(&peers[i].name, family, SOCK_DGRAM, &found);
+        if (status != STATUS_DONE) return status;
+        memset(&address, 0, sizeof address);
+        memcpy(&address, found->ai_addr, found->ai_addrlen);
+        family = found->ai_family;
+        freeaddrinfo(found);
+        if (!address_of(&address, &peers[i].address)) {
+            return say(STATUS_BROKEN, "%s: no address", peers[i].name.host);
+        }
+        for (size_t j = 0; j < i; j++) {
+            if (memcmp(&peers[j].address, &peers[i].address, sizeof peers[i].address) != 0) continue;
+            return say(STATUS_MISUSED, "%s: a peer that is named twice", peers[i].name.host);
+        }
+    }
+    return STATUS_DONE;
 }
 
 static int run(void) {
     int status = read_password();
-    if (status == STATUS_DONE) status = find_peer();
+    take_signals();
+    if (status == STATUS_DONE) status = find_peers();
     if (status == STATUS_DONE) status = open_server();
     if (status == STATUS_DONE) status = use_server();
     close_server();
+    stun_types_allocation_free(&client);
+    explicit_bzero(asked.password, sizeof asked.password);
     return status;
+}
+
+static bool take_peer(const char *value, bool binds) {
+    if (peer_count == MOST_PEERS) return false;
+    peer *taken = &peers[peer_count++];
+    taken->binds = binds;
+    return read_target(value, &taken->name) && taken->name.port[0] != 0;
 }
 
 static bool take_own_option(int letter, const char *value) {
     switch (letter) {
-    case 'p': return read_target(value, &peer_name) && peer_name.port[0] != 0;
+    case 'p': return take_peer(value, false);
+    case 'c': return take_peer(value, true);
     case 'd': data = value; return strlen(value) <= 1200;
-    case 'r': return read_seconds(value, &receive_for);
+    case 'i': return read_seconds(value, 3600, &interval);
+    case 'r': return read_seconds(value, 3600, &receive_for);
+    case 'H': return read_seconds(value, MOST_HOLD, &hold_for);
     case 'l': return read_number(value, 1, 3600, &lifetime);
     default: return take_option(letter, value);
     }
@@ -233,7 +476,8 @@ static bool take_own_option(int letter, const char *value) {
 int main(int count, char **arguments) {
     int letter;
     asked.program = "stun-turn-client";
-    const char *letters = COMMON_LETTERS "p:d:r:l:";
+    asked.carries = STUN_TYPES_STREAM_CHANNEL_DATA;
+    const char *letters = COMMON_LETTERS "p:c:d:i:r:H:l:";
     while ((letter = getopt_long(count, arguments, letters, words, NULL)) != -1) {
         if (letter == 'h') return print_text(help);
         if (letter == 'V') {
@@ -242,7 +486,6 @@ int main(int count, char **arguments) {
         if (!take_own_option(letter, optarg)) return usage();
     }
     if (count - optind != 1 || !read_target(arguments[optind], &asked.server)) return usage();
-    if (asked.user == NULL && asked.password_file != NULL) return usage();
-    if (receive_for != 0 && !has_peer()) return usage();
+    if (asked.user == NULL || ((receive_for != 0 || interval != 0) && peer_count == 0)) return usage();
     return run();
 }

@@ -3,7 +3,8 @@
  * docs/guide/STUN-SERVER.md says how to run it.
  *
  *     cc -std=c11 -O2 -I c FILES libstun_types.a -o stun-server
- *     ./stun-server [-t] [--turn] [-j PROCESSES] [-U USER] [-m PATH|PORT] [-c FILE] [-o NAME=VALUE]..
+ *     ./stun-server [--check] [-t] [--turn] [-j PROCESSES] [-U USER] [-m PATH|PORT] [-c FILE]
+ *         [-o NAME=VALUE]..
  *         ADDRESS PORT [ADDRESS PORT]..
  *
  * ADDRESS is an IPv4 or IPv6 address of this machine. 0.0.0.0 stands for all its IPv4 addresses,
@@ -18,7 +19,8 @@
  * the counts at SIGHUP, at SIGUSR1 and at the end, which SIGTERM and SIGINT bring. At SIGHUP the
  * file of settings is read again.
  *
- * The status is 0 if it ran, 1 if it couldn't begin or gave up, 2 if the arguments are wrong. */
+ * The status is 0 if it ran, 3 if it couldn't begin or gave up, 64 if the arguments are wrong, 78 if a file
+ * is. */
 #include "server.h"
 
 #include <fcntl.h>
@@ -32,10 +34,10 @@ bool cannot(const char *what) {
 }
 
 static int print_usage(FILE *to) {
-    fprintf(to, "usage: stun-server [-t] [--turn] [-j PROCESSES] [-U USER] [-m PATH|PORT] [-c FILE] "
+    fprintf(to, "usage: stun-server [--check] [-t] [--turn] [-j PROCESSES] [-U USER] [-m PATH|PORT] [-c FILE] "
                 "[-o NAME=VALUE].. ADDRESS PORT [ADDRESS PORT]..\n"
                 "       stun-server -h | -V\n");
-    return to == stdout ? 0 : 2;
+    return to == stdout ? STATUS_DONE : STATUS_WRONG_ARGUMENTS;
 }
 
 static int print_help(void) {
@@ -43,6 +45,7 @@ static int print_help(void) {
     printf("\n"
            "ADDRESS            an IP address of this machine; 0.0.0.0 or :: stands for all\n"
            "PORT               1 to 65535\n"
+           "--check            read all settings, say what is wrong, and end\n"
            "-t                 serve TCP too\n"
            "--turn             the same as -o turn=1\n"
            "-j PROCESSES       1 to %d for each address over UDP; 1 unless it is given\n"
@@ -81,6 +84,7 @@ static bool read_option(int option, const char *value) {
     case 'c': return *(options.file = value) != 0;
     case 'm': return is_place(options.reports = value);
     case 'T': return read_setting("turn=1");
+    case 'C': return options.checks = true;
     default: return false;
     }
 }
@@ -117,6 +121,18 @@ static bool open_all(endpoints *opened, const socket_address *addresses, size_t 
     return listeners == 0 || make_connections(listeners);
 }
 
+/* Reads what the settings say of TURN, and the files that they name. */
+static int check(const socket_address *addresses, size_t count, uint32_t passed) {
+    static endpoints noted;
+    for (size_t i = 0; i < count; i++) {
+        if (!note_address(&noted, &addresses[i])) return STATUS_BROKEN;
+    }
+    for (uint32_t i = 0; i < passed; i++) {
+        if (!take_socket(&noted, FIRST_PASSED + (int)i)) return STATUS_BROKEN;
+    }
+    return !setting(TURN) || (prepare_turn(&noted) && open_log()) ? STATUS_DONE : start_status;
+}
+
 static int run(const socket_address *addresses, size_t count, uint32_t passed) {
     static endpoints opened;
     sigset_t signals = awaited_signals();
@@ -125,11 +141,13 @@ static int run(const socket_address *addresses, size_t count, uint32_t passed) {
     sigprocmask(SIG_BLOCK, &signals, NULL);
     signal(SIGPIPE, SIG_IGN);
     signal(SIGCHLD, SIG_DFL); /* (ignored, as it may be inherited, it hides dead workers) */
-    if (options.file != NULL && !read_settings(options.file)) return STATUS_BROKEN;
+    if (options.file != NULL && !read_settings(options.file)) return start_status;
+    if (options.checks) return check(addresses, count, passed);
     if (!open_all(&opened, addresses, count, passed)) return STATUS_BROKEN;
     if (options.reports != NULL && (reports = open_reports(options.reports)) < 0) return STATUS_BROKEN;
     if ((rates = make_rate_table()) == NULL) return STATUS_BROKEN;
-    if (setting(TURN) && !prepare_turn(&opened)) return STATUS_BROKEN;
+    if (setting(TURN) && !(prepare_turn(&opened) && open_log())) return start_status;
+    if (options.user != NULL && setting(TURN) && !keep_reader()) return STATUS_BROKEN;
     if (options.user != NULL && !become_user(options.user)) return STATUS_BROKEN;
     return supervise(&opened, rates, reports) ? STATUS_DONE : STATUS_BROKEN;
 }
@@ -148,12 +166,15 @@ int main(int count, char **arguments) {
     int option;
     open_standard();
     setvbuf(stderr, line, _IOLBF, sizeof line); /* each line is written at once */
+    open_lines();
     if (!make_settings()) return STATUS_BROKEN;
-    static const struct option long_options[] = {{"turn", no_argument, NULL, 'T'}, {NULL, 0, NULL, 0}};
+    static const struct option long_options[] = {
+        {"turn", no_argument, NULL, 'T'}, {"check", no_argument, NULL, 'C'}, {NULL, 0, NULL, 0}};
     while ((option = getopt_long(count, arguments, "+:tj:U:o:c:m:hV", long_options, NULL)) != -1) {
         if (option == 'h') return print_help();
         if (option == 'V') return print_version();
-        if (!read_option(option, optarg)) return print_usage(stderr);
+        if (read_option(option, optarg)) continue;
+        return option == 'o' ? STATUS_WRONG_ARGUMENTS : print_usage(stderr);
     }
     uint32_t passed;
     if (!count_passed(&passed)) return STATUS_BROKEN;

@@ -1,6 +1,6 @@
 /* A limit of the answers to one prefix: the first 24 bits of an IPv4 address, or 56 of IPv6; and of the
- * octets that are relayed for one user, or one allocation. Each prefix may have `rate` answers at once,
- * and `rate` a second from then on.
+ * octets and datagrams that are relayed for one user, or one allocation. Each prefix may have `rate` answers
+ * at once, and `rate` a second from then on.
  *
  * For each prefix the table has the time until which its answers are paid for: an answer moves it
  * by a `rate`th of a second, and is given if it then is at most a second ahead (the generic cell
@@ -80,15 +80,15 @@ bool may_answer(rate_table *table, const stun_types_address *source, uint32_t ra
     return pay_in(table, prefix_of(source), SECOND / rate, now);
 }
 
-/* What octets take of a second; a datagram that is longer than a second's takes it all. */
-static uint64_t price_of(size_t octets, uint32_t rate) {
-    return octets < rate ? (uint64_t)octets * SECOND / rate : SECOND;
+/* What octets, or datagrams, take of a second; more than a second has take it all. */
+static uint64_t price_of(size_t amount, uint32_t rate) {
+    return amount < rate ? (uint64_t)amount * SECOND / rate : SECOND;
 }
 
-bool may_pass(rate_table *table, uint64_t user, uint32_t rate, size_t octets, uint64_t now) {
-    return pay_in(table, user, price_of(octets, rate), now);
+bool may_pass(rate_table *table, uint64_t user, uint32_t rate, size_t amount, uint64_t now) {
+    return pay_in(table, user, price_of(amount, rate), now);
 }
 
-bool may_pass_by(uint64_t *paid_until, uint32_t rate, size_t octets, uint64_t now) {
-    return pay(paid_until, price_of(octets, rate), now);
+bool may_pass_by(uint64_t *paid_until, uint32_t rate, size_t amount, uint64_t now) {
+    return pay(paid_until, price_of(amount, rate), now);
 }

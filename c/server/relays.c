@@ -64,10 +64,11 @@ static bool find_family(const endpoints *of, int which) {
     *outside = *own;
     bool is_outside = find_address(EXTERNAL_ADDRESS, family, outside);
     if (!relays.families[which].is_there) {
-        return !is_outside || complain("external-address has no relay-address of its family");
+        return !is_outside || complain("external-address has no relay-address of its family; one is needed");
     }
     if (!is_outside) *outside = *own;
-    return !is_unspecified(outside) || complain("relay-address stands for several: give external-address");
+    return !is_unspecified(outside) ||
+           complain("relay-address stands for several; external-address is needed, the one that clients learn");
 }
 
 /* ---- Opening --------------------------------------------------------------------------------- */
@@ -103,6 +104,14 @@ static uint16_t bind_to_any(int number, const stun_types_address *address, int w
     return 0;
 }
 
+bool is_local(const stun_types_address *address) {
+    int made = make_socket(address->family);
+    bool is_other = made >= 0 && !bind_to(made, *address, (uint16_t)relays.least) &&
+                    errno == EADDRNOTAVAIL;
+    if (made >= 0) close(made);
+    return !is_other;
+}
+
 /* Opens a spare socket. */
 static bool open_spare(int which, int wish) {
     spare *opened = &relays.families[which].spares[wish];
@@ -132,36 +141,51 @@ static void set_ready(void) {
     relays.ready.even_ipv4 = ready_address(0, &four[EVEN], &four[EVEN]);
     relays.ready.any_ipv6 = ready_address(1, &six[ANY], &six[EVEN]);
     relays.ready.even_ipv6 = ready_address(1, &six[EVEN], &six[EVEN]);
-    relays.ready.ipv4 = relays.families[0].is_there;
-    relays.ready.ipv6 = relays.families[1].is_there;
 }
 
 void open_spares(tally *mine) {
+    uint64_t ready = 0;
     for (int which = 0; which < FAMILIES; which++) {
         for (int wish = 0; wish < WISHES && relays.families[which].is_there; wish++) {
-            if (relays.families[which].spares[wish].socket >= 0) continue;
-            if (!open_spare(which, wish)) count(mine, TURN_NO_PORT, 1);
+            bool is_there = relays.families[which].spares[wish].socket >= 0 || open_spare(which, wish);
+            if (is_there) ready++;
+            else count(mine, TURN_NO_PORT, 1);
         }
     }
+    set_gauge(mine, SOCKETS_READY, ready);
     set_ready();
 }
 
 const stun_types_turn_ready *ready_sockets(void) { return &relays.ready; }
 
+void relay_ports(uint32_t *least, uint32_t *most) {
+    *least = relays.least;
+    *most = relays.most;
+}
+
+bool relays_family(uint16_t family) { return relays.families[family == 4 ? 0 : 1].is_there; }
+
 /* ---- The start ------------------------------------------------------------------------------- */
 
-/* Tests that a socket can be bound to the address of a family. */
+/* Prints why no relay socket can be opened. */
+static void print_unbound(const stun_types_address *own, int error) {
+    char text[INET6_ADDRSTRLEN] = "?";
+    inet_ntop(own->family == 4 ? AF_INET : AF_INET6, own->octets, text, sizeof text);
+    fprintf(stderr, "stun-server: relay-address %s, ports %u-%u: %s%s\n", text, (unsigned)relays.least,
+            (unsigned)relays.most, strerror(error),
+            error == EPERM ? "; a unit allows them by SocketBindAllow=udp:LOW-HIGH" : "");
+}
+
+/* Tests that a socket can be bound to the address of a family, and to one of its ports: a unit may allow no
+ * others. If those that are tried are taken, some will be free later. */
 static bool test_family(int which) {
     const stun_types_address *own = &relays.families[which].own;
     int made = make_socket(own->family);
-    bool is_bound = made >= 0 && bind_to(made, *own, 0);
+    bool is_bound = made >= 0 && (bind_to_any(made, own, ANY) != 0 || errno == EADDRINUSE);
     int error = errno;
     if (made >= 0) close(made);
-    if (is_bound) return true;
-    fprintf(stderr, "stun-server: relay-address ");
-    print_address(stderr, own);
-    fprintf(stderr, ": %s\n", strerror(error));
-    return false;
+    if (!is_bound) print_unbound(own, error);
+    return is_bound;
 }
 
 bool prepare_relays(const endpoints *of) {
@@ -171,10 +195,10 @@ bool prepare_relays(const endpoints *of) {
     for (int which = 0; which < FAMILIES; which++) {
         for (int wish = 0; wish < WISHES; wish++) relays.families[which].spares[wish].socket = -1;
         if (!find_family(of, which)) return false;
-        if (relays.families[which].is_there && !test_family(which)) return false;
+        if (relays.families[which].is_there && !options.checks && !test_family(which)) return false;
         is_any |= relays.families[which].is_there;
     }
-    return is_any || complain("it listens on all addresses: give relay-address");
+    return is_any || complain("it listens on all addresses; relay-address is needed, one of them");
 }
 
 bool begin_relays(void) {
@@ -189,8 +213,13 @@ relay *relay_at(size_t slot) {
     return slot < relays.count && relays.all[slot].is_taken ? &relays.all[slot] : NULL;
 }
 
+size_t relay_slot(const relay *of) { return (size_t)(of - relays.all); }
+
+/* The slot that a number says. */
+static size_t slot_of(uint64_t number) { return (size_t)(number & 0xFFFFFF); }
+
 relay *find_relay(uint64_t number) {
-    relay *found = relay_at((size_t)(number & UINT32_MAX));
+    relay *found = relay_at(slot_of(number));
     return found != NULL && found->number == number ? found : NULL;
 }
 
@@ -204,7 +233,7 @@ static spare *find_spare(const stun_types_address *address) {
 }
 
 relay *take_spare(const stun_types_address *address, uint64_t number) {
-    size_t slot = (size_t)(number & UINT32_MAX);
+    size_t slot = slot_of(number);
     spare *from = find_spare(address);
     if (from == NULL || slot >= relays.count || relays.all[slot].is_taken) return NULL;
     relay *taken = &relays.all[slot];

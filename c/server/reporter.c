@@ -6,7 +6,18 @@
 #include <sys/stat.h>
 #include <sys/un.h>
 
-enum { SECOND = 1000 };
+enum {
+    SECOND = 1000,
+    MOST_ASKING = 64 /* at once: if there are more, the first of them is closed */
+};
+
+/* Who asks, each for a second at most until the request comes, and until the answer has been read. */
+static struct {
+    struct pollfd waits[1 + MOST_ASKING]; /* the listener, and then those who ask, the first first */
+    uint64_t until[1 + MOST_ASKING];      /* in milliseconds, */
+    bool answered[1 + MOST_ASKING];       /* and whether each has had the answer */
+    size_t count;                         /* with the listener */
+} asking;
 
 /* Removes a socket that an earlier server has left, by which nobody is there any more. */
 static void remove_left(const struct sockaddr_un *at) {
@@ -53,39 +64,63 @@ int open_reports(const char *where) {
     uint32_t port;
     bool is_port = read_number(where, 1, 65535, &port);
     int opened = is_port ? listen_at_port(port) : listen_at_path(where);
-    if (opened >= 0 && listen(opened, 16) == 0) return opened;
+    if (opened >= 0 && listen(opened, SOMAXCONN) == 0) return opened;
     cannot(where);
     return -1;
 }
 
-/* Waits for a second at most until something can be read. */
-static bool can_read(int socket, tally *mine) {
-    struct pollfd waits = {.fd = socket, .events = POLLIN};
-    raise_by(&mine->beats, 1);
-    return poll(&waits, 1, SECOND) > 0;
+/* Ends the connection of one who asks. */
+static void dismiss(size_t at) {
+    size_t left = --asking.count - at;
+    close(asking.waits[at].fd);
+    memmove(&asking.waits[at], &asking.waits[at + 1], left * sizeof *asking.waits);
+    memmove(&asking.until[at], &asking.until[at + 1], left * sizeof *asking.until);
+    memmove(&asking.answered[at], &asking.answered[at + 1], left * sizeof *asking.answered);
 }
 
-/* Answers a request, and waits until the client has read the answer. */
-static void report(int client, const char *text, size_t length, tally *mine) {
+/* Accepts one who asks. If the system has none, since files are scarce, it is tried again a second later. */
+static void admit(uint64_t now) {
+    int client = accept4(asking.waits[0].fd, NULL, NULL, SOCK_CLOEXEC | SOCK_NONBLOCK);
+    if (client < 0) {
+        if (errno != EAGAIN) poll(NULL, 0, SECOND);
+        return;
+    }
+    if (asking.count > MOST_ASKING) dismiss(1);
+    size_t at = asking.count++;
+    asking.waits[at] = (struct pollfd){.fd = client, .events = POLLIN};
+    asking.until[at] = now + SECOND;
+    asking.answered[at] = false;
+}
+
+/* Answers a request. False: there is none, or it has been answered, and the connection ends. */
+static bool answer(size_t at, const char *text, size_t length, uint64_t now) {
     char dropped[4096];
-    if (!can_read(client, mine) || recv(client, dropped, sizeof dropped, 0) <= 0) return;
-    if (send(client, text, length, MSG_NOSIGNAL) < 0) return;
+    int client = asking.waits[at].fd;
+    bool has_asked = recv(client, dropped, sizeof dropped, 0) > 0;
+    if (!has_asked || asking.answered[at] || send(client, text, length, MSG_NOSIGNAL) < 0) return false;
     shutdown(client, SHUT_WR);
-    if (can_read(client, mine)) (void)recv(client, dropped, sizeof dropped, 0);
+    asking.until[at] = now + SECOND;
+    return asking.answered[at] = true;
+}
+
+/* Answers those who have asked, and ends what has ended. */
+static void answer_all(const char *text, size_t length, uint64_t now) {
+    for (size_t at = asking.count - 1; at > 0; at--) {
+        bool has_come = asking.waits[at].revents != 0;
+        if (has_come ? !answer(at, text, length, now) : now >= asking.until[at]) dismiss(at);
+    }
 }
 
 void serve_reports(int listener, const tally *tallies, size_t tallies_count, uint64_t began,
                    tally *mine) {
     static char room[COUNTS_ROOM];
+    asking.waits[0] = (struct pollfd){.fd = listener, .events = POLLIN};
+    asking.count = 1;
     while (!ending) {
-        if (!can_read(listener, mine)) continue;
-        int client = accept4(listener, NULL, NULL, SOCK_CLOEXEC | SOCK_NONBLOCK);
-        if (client < 0) {
-            if (errno != EAGAIN) poll(NULL, 0, SECOND);
-            continue;
-        }
-        uint64_t uptime = (milliseconds() - began) / SECOND;
-        report(client, room, write_counts(tallies, tallies_count, uptime, room), mine);
-        close(client);
+        raise_by(&mine->beats, 1);
+        if (poll(asking.waits, asking.count, SECOND) < 0) continue;
+        uint64_t now = milliseconds();
+        answer_all(room, write_counts(tallies, tallies_count, (now - began) / SECOND, room), now);
+        if (asking.waits[0].revents != 0) admit(now);
     }
 }

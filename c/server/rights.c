@@ -14,6 +14,15 @@ static bool drop_capabilities(void) {
     return syscall(SYS_capset, &header, none) == 0;
 }
 
+bool keep_reading_rights(void) {
+    struct __user_cap_header_struct header = {_LINUX_CAPABILITY_VERSION_3, 0};
+    struct __user_cap_data_struct had[_LINUX_CAPABILITY_U32S_3], kept[_LINUX_CAPABILITY_U32S_3];
+    memset(kept, 0, sizeof kept);
+    if (syscall(SYS_capget, &header, had) != 0) return false;
+    kept[0].permitted = kept[0].effective = had[0].permitted & 1u << CAP_DAC_READ_SEARCH;
+    return syscall(SYS_capset, &header, kept) == 0;
+}
+
 /* Becomes a user. A process that is this user's, and may not change its groups, keeps them. */
 static bool change_to(uid_t user, gid_t group) {
     bool is_theirs = geteuid() == user;

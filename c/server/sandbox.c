@@ -40,13 +40,15 @@ static ruleset rules_in(int version) {
     return rules;
 }
 
-/* Lets the files in a folder be read. */
-static bool allow_folder(int made, const char *folder) {
-    enum { BENEATH = 1, READ_FILE = 1u << 2 };
+enum { WRITE_FILE = 1u << 1, READ_FILE = 1u << 2, MAKE_FILE = 1u << 8 };
+
+/* Lets the files in a folder be used. */
+static bool allow_folder(int made, const char *folder, uint64_t ways) {
+    enum { BENEATH = 1 };
     struct __attribute__((packed)) {
         uint64_t allowed;
         int32_t folder;
-    } rule = {READ_FILE, open(folder, O_PATH | O_CLOEXEC)};
+    } rule = {ways, open(folder, O_PATH | O_CLOEXEC)};
     if (rule.folder < 0) return false;
     bool added = syscall(SYS_landlock_add_rule, made, BENEATH, &rule, 0) == 0;
     close(rule.folder);
@@ -55,12 +57,12 @@ static bool allow_folder(int made, const char *folder) {
 
 static bool allow_folders(int made, const char *const *folders, size_t count) {
     for (size_t i = 0; i < count; i++) {
-        if (!allow_folder(made, folders[i])) return false;
+        if (!allow_folder(made, folders[i], READ_FILE)) return false;
     }
     return true;
 }
 
-int close_off_system(const char *const *folders, size_t count) {
+int close_off_system(const char *const *folders, size_t count, const char *written) {
     enum { ASK_VERSION = 1 };
     int version = (int)syscall(SYS_landlock_create_ruleset, NULL, 0, ASK_VERSION);
     if (prctl(PR_SET_NO_NEW_PRIVS, 1, 0, 0, 0) != 0 || version < 1) return 0;
@@ -68,6 +70,7 @@ int close_off_system(const char *const *folders, size_t count) {
     int made = (int)syscall(SYS_landlock_create_ruleset, &rules, size_in(version), 0);
     if (made < 0) return 0;
     bool closed = allow_folders(made, folders, count) &&
+                  (written == NULL || allow_folder(made, written, WRITE_FILE | MAKE_FILE)) &&
                   syscall(SYS_landlock_restrict_self, made, 0) == 0;
     close(made);
     return closed ? version : 0;
@@ -186,14 +189,29 @@ static void allow_both(program *to) {
     for (size_t i = 0; i < sizeof calls / sizeof *calls; i++) allow(to, calls[i]);
 }
 
+/* Begins a filter: calls of another machine end the process. */
+static void begin_filter(program *to) {
+    *to = (program){.count = 0};
+    load(to, offsetof(struct seccomp_data, arch));
+    compare(to, (int)MACHINE, 1, 0);
+    end_by(to, SECCOMP_RET_KILL_PROCESS);
+    load(to, offsetof(struct seccomp_data, nr));
+}
+
+/* Ends a filter: other calls than those that are allowed end the process. */
+static bool set_filter(program *made, unsigned long flags) {
+    allow_both(made);
+    end_by(made, SECCOMP_RET_KILL_PROCESS);
+    struct sock_fprog filter = {made->count, made->steps};
+    return prctl(PR_SET_NO_NEW_PRIVS, 1, 0, 0, 0) == 0 &&
+           syscall(SYS_seccomp, SECCOMP_SET_MODE_FILTER, flags, &filter) == 0;
+}
+
 /* SPEC_ALLOW: the processor may speculate as before. Older systems would slow the process down,
  * against code in it that reads its memory; unless it relays it holds no secrets. */
 bool filter_calls(int own, bool relays) {
-    program made = {.count = 0};
-    load(&made, offsetof(struct seccomp_data, arch));
-    compare(&made, (int)MACHINE, 1, 0);
-    end_by(&made, SECCOMP_RET_KILL_PROCESS);
-    load(&made, offsetof(struct seccomp_data, nr));
+    program made;
+    begin_filter(&made);
     if (own < 0 || relays) allow_events(&made);
     if (relays) allow_relays(&made);
     if (own < 0) {
@@ -202,12 +220,16 @@ bool filter_calls(int own, bool relays) {
         allow(&made, SYS_recvmmsg);
         allow_one_if(&made, SYS_sendmmsg, 0, own);
     }
-    allow_both(&made);
-    end_by(&made, SECCOMP_RET_KILL_PROCESS);
-    struct sock_fprog filter = {made.count, made.steps};
-    unsigned long flags = relays ? 0 : SECCOMP_FILTER_FLAG_SPEC_ALLOW;
-    return prctl(PR_SET_NO_NEW_PRIVS, 1, 0, 0, 0) == 0 &&
-           syscall(SYS_seccomp, SECCOMP_SET_MODE_FILTER, flags, &filter) == 0;
+    return set_filter(&made, relays ? 0 : SECCOMP_FILTER_FLAG_SPEC_ALLOW);
+}
+
+/* (/dev/log is connected anew if its service has begun anew) */
+bool filter_log_calls(int log) {
+    program made;
+    begin_filter(&made);
+    allow_one_if(&made, SYS_write, 0, log);
+    allow_one_if(&made, SYS_connect, 0, log);
+    return set_filter(&made, SECCOMP_FILTER_FLAG_SPEC_ALLOW);
 }
 
 #else
@@ -215,6 +237,11 @@ bool filter_calls(int own, bool relays) {
 bool filter_calls(int own, bool relays) {
     (void)own;
     (void)relays;
+    return false;
+}
+
+bool filter_log_calls(int log) {
+    (void)log;
     return false;
 }
 

@@ -7,6 +7,7 @@
 #endif
 #include <errno.h>
 #include <signal.h>
+#include <stdarg.h>
 #include <stdatomic.h>
 #include <stdlib.h>
 #include <time.h>
@@ -32,6 +33,7 @@ typedef struct {
     const char *user;    /* NULL: the rights stay as they are */
     const char *file;    /* of settings; NULL: none */
     const char *reports; /* the path or port by which it says its counts; NULL: none */
+    bool checks;         /* it reads the settings, and ends */
 } server_options;
 
 extern server_options options;
@@ -53,16 +55,35 @@ enum {
     USER_ALLOCATIONS,
     LIFETIME, /* this and the next in seconds */
     NONCE_LIFETIME,
+    DRAIN_SECONDS,
     CHANNEL_PERMITS,
     OLD_CHANNELS,
     SHA256,
     BANDWIDTH, /* this and the next in octets a second */
     USER_BANDWIDTH,
+    PACKET_RATE, /* this and the next in datagrams a second */
+    USER_PACKET_RATE,
+    LOG_JSON,
+    LOG_RATE, /* lines a second */
     SETTINGS
 };
 
-/* The settings that are texts. Some may be given several times. They don't change. */
-enum { REALM, USERS, SECRET, RELAY_ADDRESS, EXTERNAL_ADDRESS, PORTS, DENY, ALLOW, TEXTS };
+/* The settings that are texts. Some may be given several times. */
+enum {
+    REALM,
+    USERS,
+    SECRET,
+    NONCE_SECRET,
+    RELAY_ADDRESS,
+    EXTERNAL_ADDRESS,
+    PORTS,
+    DENY,
+    ALLOW,
+    ALTERNATE,
+    ALLOCATION_LOG,
+    PROXY,
+    TEXTS
+};
 
 /* The numbers, in memory that all processes share, and that a worker can only read. */
 extern _Atomic uint32_t *settings;
@@ -74,18 +95,45 @@ static inline uint32_t setting(int which) {
 /* The text of a setting that was given for the `turn`th time, from 0 on; NULL: it wasn't. */
 const char *text_setting(int which, size_t turn);
 
+/* The path of a file that a setting names; NULL: it wasn't given. A name without a slash is that of a
+ * credential, if the service manager has passed any. */
+const char *file_setting(int which);
+
 /* Makes the settings, as they usually are. */
 bool make_settings(void);
 void protect_settings(void);
 void print_settings(void);
 
-/* Reads NAME=VALUE of the arguments, which the file doesn't change. */
+/* Reads NAME=VALUE of the arguments, which the file doesn't change. False: what is wrong is printed. */
 bool read_setting(const char *text);
 
-/* Reads texts of settings: an IP address, whose port is 0; LOW-HIGH; an IP address or ADDRESS/LENGTH. */
+/* Whether an address is one of a prefix. */
+bool prefix_contains(const stun_types_prefix *prefix, const stun_types_address *address);
+
+/* Prints a text that was set, and where: FILE:LINE: NAME VALUE, or -o NAME=VALUE. */
+void print_place(FILE *to, int which, size_t turn);
+
+/* Reads texts of settings: an IP address, whose port is 0; LOW-HIGH; PREFIX, PREFIX:PORT or PREFIX:LOW-HIGH,
+ * a prefix being ADDRESS or ADDRESS/LENGTH, of IPv6 in brackets before ports. */
 bool read_ip(const char *text, stun_types_address *read);
 bool read_range(const char *text, uint32_t *least, uint32_t *most);
-bool read_prefix(const char *text, stun_types_prefix *read);
+bool read_rule(const char *text, stun_types_prefix *read);
+bool read_end(const char *text, stun_types_address *read); /* ADDRESS:PORT, of IPv6 in brackets */
+
+/* The status of a server that can't begin: STATUS_BROKEN, unless what was set is wrong (sysexits.h). */
+enum { STATUS_WRONG_ARGUMENTS = 64, STATUS_WRONG_SETTINGS = 78 };
+extern int start_status;
+
+/* Keeps what is wrong with what is read, and what would be right (faults.c). Returns false. */
+bool fault_is(const char *format, ...) __attribute__((format(printf, 1, 2)));
+const char *fault_text(void);
+const char *fault_word(void); /* without blanks, for an event */
+
+/* Prints what is wrong in a line of a file; 0: with the file. And what is wrong with the settings of TURN, or
+ * with one of the texts. They return false, and set start_status. */
+bool refuse_file(const char *path, int line);
+bool complain(const char *what);
+bool complain_of(int which, size_t turn, const char *what);
 
 /* Reads the file of settings: at the start, when what is wrong is printed, and again, when that is
  * an event. */
@@ -96,8 +144,24 @@ bool read_settings_again(void);
 enum { FAILURE, WARNING, NEWS };
 bool say(int level, const char *format, ...) __attribute__((format(printf, 2, 3)));
 
+/* A text that grows in a room; what has no room is left out. */
+typedef struct {
+    char *room;
+    size_t size, length;
+} growing_text;
+
+void print_to(growing_text *to, const char *format, ...) __attribute__((format(printf, 2, 3)));
+
 /* Prints what failed and why, as errno has it. Returns false. */
 bool cannot(const char *what);
+
+/* The lines of events on standard error: from open_lines on nobody waits for who reads them. A line that
+ * there is no room for is lost; how many were; and the file that they are written to. */
+void open_lines(void);
+void close_lines(void);
+void print_line(const char *line, size_t length);
+uint64_t lost_lines(void);
+int lines_file(void);
 
 /* ---- Endpoints (sockets.c) ------------------------------------------------------------------- */
 
@@ -117,6 +181,9 @@ typedef struct {
 
 /* Opens the sockets of an address: over UDP one for each process, and one over TCP if asked to. */
 bool open_address(endpoints *to, const socket_address *at);
+
+/* Appends an address as open_address does, without a socket. */
+bool note_address(endpoints *to, const socket_address *at);
 
 /* Takes an open socket, of either kind, that the server was started with. */
 bool take_socket(endpoints *to, int number);
@@ -147,15 +214,22 @@ void notify_alive(void);
  * If this user has started the server, it keeps its other groups, unless it may drop them. */
 bool become_user(const char *name);
 
+/* Gives up all capabilities but the one to read any file, if there is that one. */
+bool keep_reading_rights(void);
+
 /* Closes off files, TCP sockets of its own and other processes by Landlock; the files in some folders
- * can be read still. Returns the version of Landlock that does so, or 0. */
-int close_off_system(const char *const *folders, size_t count);
+ * can be read still, and in another one, unless it is NULL, files be made and written to. Returns the version
+ * of Landlock that does so, or 0. */
+int close_off_system(const char *const *folders, size_t count, const char *written);
 
 /* Whether the system filters system calls (seccomp), and whether it does so from now on: then a
  * call that serving doesn't make ends the process. own: the socket by which a worker for UDP sends;
  * -1: it has connections. relays: it opens sockets for UDP, and sends by each. */
 bool can_filter(void);
 bool filter_calls(int own, bool relays);
+
+/* The same for a process that only writes to one file. */
+bool filter_log_calls(int log);
 
 /* ---- Counts (counts.c) ----------------------------------------------------------------------- */
 
@@ -173,6 +247,7 @@ enum {
     TCP_IDLE,      /* closed by idle_timeout, and then by request_timeout and max_age */
     TCP_SLOW,
     TCP_AGED,
+    TCP_BAD_HEADER, /* closed since the PROXY header of a proxy was missing or wrong */
     TCP_RECEIVED,
     TCP_SENT, /* given to a connection to be sent */
     TCP_UNANSWERED,
@@ -190,16 +265,50 @@ enum {
     TURN_OVER,    /* over a bandwidth */
     TURN_FAILED,  /* the system refused to send to a peer */
     TURN_NO_PORT, /* no relay socket could be opened */
-    UDP_DROPPED, /* this and the next two are the supervisor's */
+    LOG_LINES, /* of the log of allocations, written and not */
+    LOG_DROPPED,
+    UDP_DROPPED, /* this and the next three are the supervisor's */
     WORKERS_DIED,
     WORKERS_HUNG,
+    LINES_LOST, /* that nobody read from standard error */
     COUNTS
 };
 
-/* In memory that all processes share. One process alone writes it. */
+/* What there is at the moment; the last three are the supervisor's. */
+enum { ALLOCATIONS_NOW, CONNECTIONS_NOW, SOCKETS_READY, USERS_KNOWN, MEMORY, DRAINING, GAUGES };
+
+/* Why requests of clients of TURN are refused. counts.c has the codes. */
+enum {
+    REFUSED_UNSIGNED, /* as the first request of each client is */
+    REFUSED_CREDENTIALS,
+    REFUSED_NONCE,
+    REFUSED_MALFORMED,
+    REFUSED_PEER,
+    REFUSED_ATTRIBUTE,
+    REFUSED_MISMATCH,
+    REFUSED_FAMILY,
+    REFUSED_USER,
+    REFUSED_TRANSPORT,
+    REFUSED_PEER_FAMILY,
+    REFUSED_QUOTA,
+    REFUSED_CAPACITY, /* for another cause than the next three */
+    REFUSED_FULL,
+    REFUSED_NO_PORT,
+    REFUSED_DRAINING,
+    REFUSED_MOVED,
+    REFUSED_OTHERWISE,
+    REFUSALS
+};
+
+/* The usual cause of a code. */
+int refusal_of(uint32_t code);
+
+/* In memory that all processes share. One process alone writes it; when it has died, the supervisor. */
 typedef struct {
     _Alignas(64) _Atomic uint64_t beats; /* turns of the worker's loop, one a second at least */
     _Atomic uint64_t numbers[COUNTS];
+    _Atomic uint64_t gauges[GAUGES];
+    _Atomic uint64_t refusals[REFUSALS];
 } tally;
 
 static inline void raise_by(_Atomic uint64_t *number, uint64_t more) {
@@ -215,6 +324,19 @@ static inline void set_count(tally *mine, int which, uint64_t number) {
     atomic_store_explicit(&mine->numbers[which], number, memory_order_relaxed);
 }
 
+static inline void set_gauge(tally *mine, int which, uint64_t number) {
+    atomic_store_explicit(&mine->gauges[which], number, memory_order_relaxed);
+}
+
+/* How many there are of something at the moment, in all processes. */
+uint64_t sum_of_gauges(const tally *tallies, size_t tallies_count, int which);
+
+/* What a process had is no more, since it has died. */
+void clear_gauges(tally *of);
+
+/* How many octets of memory a process has for itself; 0: that can't be read. */
+uint64_t memory_of(pid_t process);
+
 /* How many datagrams came to sockets whose queues were full. */
 uint64_t dropped_by_all(const endpoints *of);
 
@@ -222,7 +344,7 @@ uint64_t dropped_by_all(const endpoints *of);
 void print_counts(const tally *tallies, size_t tallies_count, uint64_t uptime);
 
 /* Writes them as an answer of HTTP/1.0, in the text format of Prometheus. Returns its length. */
-enum { COUNTS_ROOM = 8192 };
+enum { COUNTS_ROOM = 16384 };
 size_t write_counts(const tally *tallies, size_t tallies_count, uint64_t uptime,
                     char room[COUNTS_ROOM]);
 
@@ -265,12 +387,12 @@ rate_table *make_rate_table(void);
 /* Whether a client may have an answer now (in nanoseconds) by a rate; then it counts as given. */
 bool may_answer(rate_table *table, const stun_types_address *source, uint32_t rate, uint64_t now);
 
-/* Whether so many octets may pass now, by a rate in octets a second, for a user who has a number other
- * than 0; and by a bucket of the caller's, zero at first. Then they count as passed. */
-bool may_pass(rate_table *table, uint64_t user, uint32_t rate, size_t octets, uint64_t now);
-bool may_pass_by(uint64_t *paid_until, uint32_t rate, size_t octets, uint64_t now);
+/* Whether so many octets, or datagrams, may pass now, by a rate of as many a second, for a user who has a
+ * number other than 0; and by a bucket of the caller's, zero at first. Then they count as passed. */
+bool may_pass(rate_table *table, uint64_t user, uint32_t rate, size_t amount, uint64_t now);
+bool may_pass_by(uint64_t *paid_until, uint32_t rate, size_t amount, uint64_t now);
 
-/* ---- TURN (turn.c, relays.c, users.c, hmac.c) ------------------------------------------------ */
+/* ---- TURN (turn.c, relays.c, drain.c, users.c, nonces.c, hmac.c) ------------------------------------------------ */
 
 /* A client as a process sees it: its 5-tuple, and how it is reached. */
 typedef struct {
@@ -283,16 +405,35 @@ typedef struct {
     uint64_t serial;
 } turn_client;
 
-/* The relay sockets of a process. A number that the TURN server gives one has its slot in its low 32
- * bits. */
+/* The name of a user, as a request has it: the first bytes of a USERNAME, or a USERHASH. */
+enum { NAME_ROOM = 128 };
+typedef struct {
+    uint8_t bytes[NAME_ROOM];
+    uint16_t length;
+    bool is_hash, is_cut;
+} user_name;
+
+/* What was relayed in one direction. */
+typedef struct {
+    uint64_t datagrams, octets;
+} relayed_data;
+
+/* The relay sockets of a process: each of a relayed address, in the slot that the low 24 bits of its number
+ * say. */
 typedef struct {
     uint64_t number;
     bool is_taken;
     int socket;     /* -1: none */
     unsigned asked; /* how many datagrams are received from it at once */
-    uint64_t user; /* other than 0 */
-    uint64_t paid_until;
+    uint64_t user;  /* other than 0 */
+    relayed_data to_peer, to_client;
+    uint64_t octets_until, packets_until; /* when what has passed is paid for, by the two rates */
     turn_client client;
+    stun_types_hash hash; /* of the user, */
+    bool is_listed;       /* and whether the file of users had them */
+    stun_types_address relayed; /* what clients learn */
+    uint64_t opened;            /* in nanoseconds */
+    user_name name;
 } relay;
 
 /* How many datagrams of peers, and for peers, wait to be sent at once. */
@@ -305,17 +446,17 @@ typedef struct {
     void (*deliver)(turn_client *to, uint8_t *bytes, size_t length, bool alone);
     void (*flush)(void);
     bool copies;
-    void (*changed)(const relay *of, bool begins); /* an allocation begins, or ends; NULL: so what */
+    void (*changed)(const relay *of, bool begins); /* a relay begins, or ends; NULL: so what */
     int poller;
     uint64_t first; /* the number of its first relay socket among the events of `poller` */
     tally *mine;
 } turn_process;
 
+/* Reads what else of them may have changed. */
+void renew_turn(void);
+
 /* Reads what the settings say of TURN, and tests it, before the workers start. False: why is printed. */
 bool prepare_turn(const endpoints *of);
-
-/* Prints what is wrong with the settings of TURN. Returns false. */
-bool complain(const char *what);
 
 /* How many files a process has open for TURN. */
 size_t turn_files(void);
@@ -338,17 +479,24 @@ void send_to_peers(void);
 /* Receives a few datagrams from the relay socket of an event. */
 void take_from_peers(uint64_t number);
 
-/* Once a second: ends allocations, and opens sockets that are missing. */
+/* Once a second: ends what has expired, and the relays of users who are no longer listed, and opens sockets
+ * that are missing. */
 void look_after_relays(void);
 
-/* A connection has been closed: its allocation, if it still has one, has nobody any more. */
-void orphan_relay(uint64_t number);
+/* Has the log know of the relays that end with the process. */
+void log_last_relays(void);
 
-/* Whether a 5-tuple still belongs to the allocation of a connection that has been closed. */
-bool is_orphaned(const stun_types_five_tuple *tuple);
+/* Ends a relay whose connection is closed. */
+void end_relay(uint64_t number);
 
 bool prepare_relays(const endpoints *of);
 bool begin_relays(void);
+
+/* The ports of relays. */
+void relay_ports(uint32_t *least, uint32_t *most);
+
+/* Whether there are relays of a family, 4 or 6. */
+bool relays_family(uint16_t family);
 
 /* Opens the spare sockets that are missing. */
 void open_spares(tally *mine);
@@ -358,31 +506,136 @@ const stun_types_turn_ready *ready_sockets(void);
 relay *take_spare(const stun_types_address *address, uint64_t number);
 relay *find_relay(uint64_t number);
 relay *relay_at(size_t slot); /* NULL: it is nobody's */
+size_t relay_slot(const relay *of);
 void close_relay_socket(relay *closed);
+
 void free_relay(relay *freed);
 
-/* The prefixes of DENY or ALLOW, and the addresses that clients send to. */
-enum { MOST_PREFIXES = 512, MOST_LISTENING = 1024 };
-size_t read_prefixes(int which, stun_types_prefix *read);
-size_t list_listening(const endpoints *of, stun_types_address *listed);
+/* Whether an address is one of this machine's now. If the system doesn't say, it is. */
+bool is_local(const stun_types_address *address);
 
-/* The files of users and of secrets, at the start, and again. */
+/* Reads whom clients may not reach. False: the server listens at one of `ports`. */
+enum { MOST_PREFIXES = 512 };
+bool prepare_peers(const endpoints *of, stun_types_turn_settings *settings);
+
+/* Reads the rules again, for the workers that there are and for those that start from now on. */
+void renew_peers(stun_types_turn_settings *settings);
+void protect_peers(void);
+
+/* In a worker: has its server take the rules that were read last. False: there is no memory, and it has the
+ * others. */
+bool follow_peers(stun_types_turn *server, stun_types_turn_settings *settings);
+
+/* Whether the server itself listens at a peer's port, and the address is one of this machine's now. */
+bool is_server(const stun_types_address *peer);
+
+/* Denies such a peer from now on. False: there is no memory. */
+bool deny_server(stun_types_turn *server, stun_types_turn_settings *settings, const stun_types_address *peer);
+
+/* Whether a message is a ChannelBind request for such a peer, and which. */
+bool binds_server(const uint8_t *request, size_t length, stun_types_address *peer);
+
+/* What was found in the files of users and of secrets. */
+typedef struct {
+    int wrong, error; /* the line that is wrong; -1: a file can't be read, and why as errno has it */
+    int which;        /* the file that is wrong: USERS or SECRET */
+    size_t users, secrets;
+    char reason[256];
+} users_report;
+
+/* Reads these files: at the start; into the lists that aren't in use; and takes those. */
 bool make_users(void);
-bool read_users_again(void);
+void read_users(users_report *report);
+void use_users(const users_report *report);
+size_t count_users(void); /* of the file that is in use */
 void protect_users(bool is_needed);
+
+/* A process of its own that reads them again (reader.c): started, before rights are given up, to be kept;
+ * asked to read, again if it is reading; and heard, without waiting: whether it reads still. */
+bool keep_reader(void);
+bool is_reader_kept(void);
+void ask_reader(void);
+bool hear_reader(void);
+void close_reader(void);
 
 /* The keys of a user whom a request names, and their number. attempt: a user by a time-limited name
  * has as many as there are secrets. False: there are no more. */
 typedef struct {
     stun_types_key md5, sha256;
     uint64_t user;
+    stun_types_hash hash;
+    bool is_listed; /* in the file of users */
+    user_name name;
 } user_keys;
 bool find_user(const uint8_t *request, size_t length, unsigned attempt, user_keys *found);
+
+/* Whether the files have been read again since the last call; and whether the file of users has one. */
+bool have_users_changed(void);
+bool is_listed_user(const stun_types_hash *hash);
+
+/* What the supervisor says of all Allocate requests (drain.c): that there are to be no more allocations, and by the
+ * settings where else clients of a family find a server; family 0: nowhere. */
+bool prepare_drain(void);
+void protect_orders(void);
+void renew_alternates(void);
+void drain(void);
+bool is_draining(void);
+stun_types_address alternate_of(uint16_t family);
+
+/* Reads, or draws, the secret of the nonces, before the workers start. False: why is printed. */
+bool prepare_nonces(void);
+bool make_nonce_key(stun_types_key *made);
+void forget_nonce_secret(void);
+
+/* The time that the nonces count, by the clock of nanoseconds(). */
+uint64_t nonce_time(uint64_t now);
 
 /* HMAC-SHA1 (RFC 2104). */
 enum { SHA1_LENGTH = 20 };
 void hmac_sha1(const void *key, size_t key_length, const void *text, size_t length,
                uint8_t result[SHA1_LENGTH]);
+
+/* ---- The log of allocations (log.c) ---------------------------------------------------------- */
+
+enum { LOG_OPENED, LOG_REFUSED, LOG_ENDED };
+
+/* Why an allocation ends: in time, by its client's request, with its connection or its user, or with the
+ * server. */
+enum { END_EXPIRED, END_DELETED, END_CLOSED, END_REVOKED, END_STOPPED };
+
+typedef struct {
+    unsigned kind, why;
+    uint32_t code; /* of LOG_REFUSED */
+    pid_t process;
+    struct timespec at;
+    stun_types_five_tuple tuple;
+    stun_types_address relayed; /* family 0: none */
+    uint64_t lasted;            /* this and the next two of LOG_ENDED; in nanoseconds */
+    relayed_data to_peer, to_client;
+    user_name user;
+} log_event;
+
+/* Opens what the settings say, or with --check tests it. False: why is printed. */
+bool open_log(void);
+bool has_log(void);
+int log_file(void);
+
+/* Opens what the settings say now, or the file anew if it isn't there any more by its path. Returns whether the
+ * process of the log has to begin anew. The folder of the file that is open; NULL: there is none. */
+bool renew_log(void);
+const char *log_folder(void);
+
+/* Makes the memory by which workers reach the log. */
+bool make_log(size_t workers);
+
+/* In a worker: begins to log; whether it does so; and logs what happens, with the time. */
+void begin_logging(size_t worker, tally *mine);
+bool is_logging(void);
+void log_allocation(log_event *event);
+
+/* What the process of the log does before its system calls are filtered, and from then on. */
+void begin_log(tally *mine);
+void serve_log(void);
 
 /* ---- Processes (supervisor.c, udp.c, tcp.c) -------------------------------------------------- */
 
@@ -402,6 +655,17 @@ sigset_t awaited_signals(void);
 /* Serves all endpoints until SIGTERM or SIGINT, by workers that it starts and replaces. False: one
  * has died too often in a row. */
 bool supervise(const endpoints *of, rate_table *rates, int reports);
+
+/* What begins a connection of a proxy: a header of the PROXY protocol that isn't whole yet, or isn't right; or
+ * one of a connection of the proxy's own, or of a client's (proxy.c). */
+typedef enum { PROXY_UNFINISHED, PROXY_WRONG, PROXY_OWN, PROXY_CLIENT } proxy_kind;
+typedef struct {
+    proxy_kind kind;
+    size_t length;                     /* of a right header, in bytes; PROXY_MOST are the most */
+    stun_types_address client, server; /* of a client's connection to the proxy */
+} proxy_header;
+enum { PROXY_MOST = 4096, MOST_PROXIES = 64 };
+proxy_header read_proxy_header(const uint8_t *bytes, size_t length);
 
 /* What a worker for UDP does before its system calls are filtered, and from then on. */
 bool begin_udp(const endpoint *from, rate_table *rates, tally *mine);

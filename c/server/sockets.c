@@ -114,6 +114,13 @@ bool open_address(endpoints *to, const socket_address *at) {
     return false;
 }
 
+bool note_address(endpoints *to, const socket_address *at) {
+    endpoint noted = {.socket = -1, .workers = 1, .wildcard = is_wildcard(&at->bytes)};
+    if (to->count == MOST_ENDPOINTS || !address_of(&at->bytes, &noted.address)) return false;
+    to->all[to->count++] = noted;
+    return true;
+}
+
 /* ---- Sockets that it was started with -------------------------------------------------------- */
 
 /* Makes a socket wait or not, whatever it did before. */

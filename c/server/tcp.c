@@ -8,9 +8,11 @@ enum {
     PIECE = 4096,    /* bytes read at once, and of a page, */
     LARGE_PIECE = 65536, /* and read at once of a client with an allocation */
     RESPONSE = 2048, /* bytes of a response of the TURN server at most, */
-    REPLIES = 65536 + 128 + RESPONSE, /* and of what waits to be sent: a peer's data takes fewer */
+    RESPONSES = 4 * RESPONSE, /* what a peer's data leaves to them, */
+    REPLIES = 65536 + 128 + RESPONSES, /* and what waits to be sent at most */
     SECOND = 1000,
     CLOSING_TIME = 2000, /* both in milliseconds */
+    MOST_RELAYS = 2, /* of a connection: one of each family */
     /* the number of the first endpoint among the connections, and of the first relay socket */
     LISTENERS = MOST_CONNECTIONS,
     RELAYS = LISTENERS + MOST_ENDPOINTS
@@ -25,6 +27,8 @@ typedef struct {
     bool open;
     bool closing; /* no more is answered: what waits is sent, and then the connection is closed */
     bool half_closed;
+    bool is_proxys; /* it is a proxy's, and its header isn't whole yet, */
+    size_t header;  /* of which its piece has so many bytes */
     int socket;
     bool large; /* it has written more than a piece of its bytes */
     uint32_t awaited; /* EPOLLIN or EPOLLOUT */
@@ -35,8 +39,8 @@ typedef struct {
     uint64_t closed_at;       /* if it is closing */
     uint64_t serial;          /* which of all connections it is */
     bool is_fresh;            /* data of peers has come for it, and isn't sent yet */
-    uint32_t relays;          /* its allocations: one, and those that have ended and are still there */
-    uint64_t relay;           /* the newest */
+    uint32_t relays_count;    /* at most one of each family */
+    uint64_t relays[MOST_RELAYS];
     stun_types_five_tuple tuple;
     stun_types_stream stream;
     size_t piece_at, piece_end;
@@ -46,7 +50,7 @@ typedef struct {
 /* The bytes of a connection, kept apart so that looking through the table is fast. */
 typedef struct {
     _Alignas(PIECE) uint8_t message[STUN_TYPES_GREATEST_MESSAGE];
-    uint8_t piece[PIECE];
+    uint8_t piece[LARGE_PIECE];
     uint8_t replies[REPLIES];
 } connection_bytes;
 
@@ -61,6 +65,8 @@ static struct {
     connection *fresh[MOST_CONNECTIONS];
     size_t fresh_count;
     const endpoints *endpoints;
+    stun_types_prefix proxies[MOST_PROXIES];
+    size_t proxies_count;
     tally *mine;
 } tcp;
 
@@ -80,7 +86,16 @@ static void *zeros(size_t size) {
     return at == MAP_FAILED ? NULL : at;
 }
 
+static void read_proxies(void) {
+    const char *text;
+    while ((text = text_setting(PROXY, tcp.proxies_count)) != NULL &&
+           read_rule(text, &tcp.proxies[tcp.proxies_count])) {
+        tcp.proxies_count++;
+    }
+}
+
 bool make_connections(size_t listeners) {
+    read_proxies();
     size_t most = most_connections(OTHER_FILES + listeners);
     tcp.connections = zeros(most * sizeof *tcp.connections);
     tcp.bytes = zeros(most * sizeof *tcp.bytes);
@@ -117,12 +132,21 @@ static void count_crowds(connection *changed, bool in) {
     }
 }
 
+/* Ends the relays of a connection, since it ends. */
+static void end_relays(connection *of) {
+    while (of->relays_count > 0) {
+        uint64_t last = of->relays[--of->relays_count];
+        end_relay(last);
+    }
+}
+
 static void close_connection(connection *closed) {
     connection_bytes *bytes = &tcp.bytes[closed - tcp.connections];
-    if (closed->relays > 0) orphan_relay(closed->relay);
+    end_relays(closed);
     if (closed->large) (void)madvise(bytes, sizeof *bytes, MADV_DONTNEED);
     close(closed->socket);
     closed->open = false;
+    raise_by(&tcp.mine->gauges[CONNECTIONS_NOW], UINT64_MAX); /* (one less) */
     count_crowds(closed, false);
     while (tcp.open_end > tcp.connections && !tcp.open_end[-1].open) tcp.open_end--;
 }
@@ -137,7 +161,7 @@ static void reset_connection(connection *closed) {
 /* Whether a connection is needed less than another: the other has an allocation; or it is of a fuller
  * neighbourhood, compared from the widest on, or of ones as full, and has been idle longer. */
 static bool is_needed_less(const connection *a, const connection *b) {
-    if ((a->relays > 0) != (b->relays > 0)) return b->relays > 0;
+    if ((a->relays_count > 0) != (b->relays_count > 0)) return b->relays_count > 0;
     for (int i = 0; i < NEIGHBOURHOODS; i++) {
         if (a->crowds[i] != b->crowds[i]) return a->crowds[i] > b->crowds[i];
     }
@@ -160,7 +184,7 @@ static connection *free_place(void) {
     }
     if (tcp.open_end < tcp.end) return tcp.open_end;
     connection *least = find_least_needed();
-    if (least->relays > 0) return NULL;
+    if (least->relays_count > 0) return NULL;
     reset_connection(least);
     count(tcp.mine, TCP_DISPLACED, 1);
     return least;
@@ -253,12 +277,40 @@ static int send_waiting(connection *of, connection_bytes *bytes) {
     return DONE;
 }
 
+/* Has a connection be that of a proxy's client from now on, whatever it knew of the proxy. An older one of the
+ * same client, and with the same port, is over. */
+static void become_client(connection *of, const proxy_header *header) {
+    count_crowds(of, false);
+    of->tuple.client = header->client;
+    of->tuple.server = header->server;
+    of->place = place_of(&of->tuple.client);
+    count_crowds(of, true);
+    for (connection *at = tcp.connections; at < tcp.open_end; at++) {
+        bool is_other = at->open && at != of && !at->half_closed;
+        if (is_other && memcmp(&at->tuple, &of->tuple, sizeof of->tuple) == 0) reset_connection(at);
+    }
+}
+
+/* Takes the header at the beginning of a proxy's connection, as far as it has come. */
+static void take_header(connection *of, const uint8_t *piece) {
+    proxy_header read = read_proxy_header(piece, of->piece_end);
+    if (of->header == 0) of->begun = tcp.now;
+    of->header = read.kind == PROXY_UNFINISHED ? of->piece_end : 0;
+    of->is_proxys = read.kind == PROXY_UNFINISHED;
+    of->piece_at = of->is_proxys ? of->piece_end : read.length;
+    if (read.kind == PROXY_CLIENT) become_client(of, &read);
+    if (read.kind != PROXY_WRONG) return;
+    of->closing = true;
+    count(tcp.mine, TCP_BAD_HEADER, 1);
+}
+
 /* Reads a piece. The end of the stream counts as broken: nothing waits to be sent then. */
 static int read_piece(connection *of, connection_bytes *bytes) {
-    ssize_t got = recv(of->socket, bytes->piece, sizeof bytes->piece, 0);
+    ssize_t got = recv(of->socket, bytes->piece + of->header, PIECE - of->header, 0);
     if (got < 0) return failure();
     of->piece_at = 0;
-    of->piece_end = (size_t)got;
+    of->piece_end = of->header + (size_t)got;
+    if (got > 0 && of->is_proxys) take_header(of, bytes->piece);
     return got > 0 ? DONE : BROKEN;
 }
 
@@ -266,6 +318,7 @@ static int read_piece(connection *of, connection_bytes *bytes) {
  * that is closed with bytes unread would drop the replies on their way. */
 static void half_close(connection *of) {
     if (of->half_closed) return;
+    end_relays(of);
     of->closing = of->half_closed = true;
     of->closed_at = tcp.now + CLOSING_TIME;
     shutdown(of->socket, SHUT_WR);
@@ -297,41 +350,71 @@ static void move_to_front(connection *of, connection_bytes *bytes) {
     of->replies_at = 0;
 }
 
-/* Answers a piece whole: a response that has no room is lost. */
-static void answer_all(connection *of, connection_bytes *bytes, const uint8_t *piece, size_t length) {
-    for (size_t at = 0; at < length && !of->closing;) {
-        at += answer_piece(of, bytes, piece + at, length - at);
-    }
+/* Whether the next message waits until the client reads, since the response to it may have no room. (Data
+ * on a channel has none.) */
+static bool must_wait(const connection *of, const connection_bytes *bytes, const uint8_t *next) {
+    enum { CHANNELS = 0x40 };
+    if (of->replies_end + RESPONSE <= REPLIES) return false;
+    return (of->stream.pending > 0 ? bytes->message[0] : next[0]) < CHANNELS;
 }
 
-/* The same for a connection with an allocation: what its client doesn't read doesn't hinder what it
- * sends. */
-static uint32_t serve_relayed(connection *of, connection_bytes *bytes) {
+/* Answers a piece up to a message that has to wait. Returns how many bytes were taken. */
+static size_t answer_all(connection *of, connection_bytes *bytes, const uint8_t *piece, size_t length) {
+    size_t at = 0;
+    while (at < length && !of->closing && !must_wait(of, bytes, piece + at)) {
+        at += answer_piece(of, bytes, piece + at, length - at);
+    }
+    return at;
+}
+
+/* Keeps what isn't answered yet. */
+static void keep_rest(connection *of, connection_bytes *bytes, const uint8_t *rest, size_t length) {
+    if (length > 0) memcpy(bytes->piece, rest, length);
+    of->large |= length > 0;
+    of->piece_at = 0;
+    of->piece_end = length;
+}
+
+/* Reads what a client sends, and answers it. */
+static int read_relayed(connection *of, connection_bytes *bytes) {
     static uint8_t piece[LARGE_PIECE];
+    ssize_t got = recv(of->socket, piece, sizeof piece, 0);
+    if (got < 0) return failure();
+    if (got == 0) return BROKEN;
+    size_t taken = answer_all(of, bytes, piece, (size_t)got);
+    keep_rest(of, bytes, piece + taken, (size_t)got - taken);
+    return DONE;
+}
+
+/* The same for a connection with an allocation: the data that its client doesn't read doesn't hinder what
+ * it sends. */
+static uint32_t serve_relayed(connection *of, connection_bytes *bytes) {
     if (send_waiting(of, bytes) == BROKEN) return 0;
     move_to_front(of, bytes);
-    answer_all(of, bytes, bytes->piece + of->piece_at, of->piece_end - of->piece_at);
-    of->piece_at = of->piece_end;
-    ssize_t got = recv(of->socket, piece, sizeof piece, 0);
-    if (got == 0 || (got < 0 && failure() == BROKEN)) return 0;
-    if (got > 0) answer_all(of, bytes, piece, (size_t)got);
-    if (of->closing) return serve_in_turn(of, bytes);
+    of->piece_at += answer_all(of, bytes, bytes->piece + of->piece_at, of->piece_end - of->piece_at);
+    if (of->piece_at == of->piece_end && read_relayed(of, bytes) == BROKEN) return 0;
+    if (of->closing) {
+        end_relays(of);
+        return serve_in_turn(of, bytes);
+    }
     int sent = send_waiting(of, bytes);
-    return sent == BROKEN ? 0 : sent == WOULD_WAIT ? EPOLLIN | EPOLLOUT : EPOLLIN;
+    if (sent == BROKEN) return 0;
+    if (of->piece_at < of->piece_end) return EPOLLOUT;
+    return sent == WOULD_WAIT ? EPOLLIN | EPOLLOUT : EPOLLIN;
 }
 
 static void serve_connection(connection *of) {
     connection_bytes *bytes = &tcp.bytes[of - tcp.connections];
-    bool is_relayed = of->relays > 0 && !of->closing;
+    bool is_relayed = of->relays_count > 0 && !of->closing;
     uint32_t events = is_relayed ? serve_relayed(of, bytes) : serve_in_turn(of, bytes);
     if (events == 0 || !await(of, events)) close_connection(of);
 }
 
 /* ---- Data of peers --------------------------------------------------------------------------- */
 
-/* Whether a message has room beside what waits, and a response still has. */
+/* Whether a peer's data has room beside what waits, and responses still have. */
 static bool has_room(const connection *of, size_t length) {
-    return of->replies_end + length + RESPONSE <= REPLIES;
+    return of->replies_end + length + RESPONSES <= REPLIES;
 }
 
 /* Sends a message of which nothing waits yet. Returns how many bytes were sent: the others wait. */
@@ -379,12 +462,14 @@ static void send_fresh(void) {
     tcp.fresh_count = 0;
 }
 
-/* Counts the allocations of a connection. Its time-outs begin anew after the last. */
+/* Keeps the relays of a connection. Its time-outs begin anew after the last. */
 static void change_relays(const relay *changed, bool begins) {
     connection *of = &tcp.connections[changed->client.connection];
     if (!of->open || of->serial != changed->client.serial) return;
-    of->relays = begins ? of->relays + 1 : of->relays - 1;
-    if (begins) of->relay = changed->number;
+    uint32_t at = 0;
+    while (at < of->relays_count && of->relays[at] != changed->number) at++;
+    if (begins && at < MOST_RELAYS) of->relays[of->relays_count++] = changed->number;
+    if (!begins && at < of->relays_count) of->relays[at] = of->relays[--of->relays_count];
     of->accepted = of->heard = tcp.now;
 }
 
@@ -399,13 +484,19 @@ static bool read_tuple(int socket, const struct sockaddr_storage *from, stun_typ
     if (!address_of(from, &tuple->client)) return false;
     if (!setting(TURN)) return true;
     return getsockname(socket, (struct sockaddr *)&own, &length) == 0 &&
-           address_of(&own, &tuple->server) && !is_orphaned(tuple);
+           address_of(&own, &tuple->server);
 }
 
 /* What the stream of a connection carries. */
 static stun_types_stream_kind carried(void) {
     if (!setting(TURN)) return STUN_TYPES_STREAM_MESSAGES;
     return setting(OLD_CHANNELS) ? STUN_TYPES_STREAM_OLD_CHANNEL_DATA : STUN_TYPES_STREAM_CHANNEL_DATA;
+}
+
+static bool is_proxy(const stun_types_address *address) {
+    size_t i = 0;
+    while (i < tcp.proxies_count && !prefix_contains(&tcp.proxies[i], address)) i++;
+    return i < tcp.proxies_count;
 }
 
 /* Enters an accepted connection into the table. False: it can't be served. */
@@ -420,10 +511,12 @@ static bool enter(int socket, const struct sockaddr_storage *from) {
     place->tuple = tuple;
     place->stream.carries = carried();
     place->place = place_of(&tuple.client);
+    place->is_proxys = is_proxy(&tuple.client);
     place->awaited = EPOLLIN;
     place->accepted = place->heard = tcp.now;
     if (!control(EPOLL_CTL_ADD, socket, EPOLLIN, (size_t)(place - tcp.connections))) return false;
     place->open = true;
+    raise_by(&tcp.mine->gauges[CONNECTIONS_NOW], 1);
     if (place >= tcp.open_end) tcp.open_end = place + 1;
     count_crowds(place, true);
     return true;
@@ -469,8 +562,9 @@ static bool is_over(uint64_t since, uint32_t seconds) {
 /* Why a connection is to be closed, as the count that goes up for it; COUNTS: it isn't. One with an
  * allocation lasts as long as that. */
 static int overdue(const connection *of) {
-    if (of->stream.pending > 0 && is_over(of->begun, setting(REQUEST_TIMEOUT))) return TCP_SLOW;
-    if (of->relays > 0) return COUNTS;
+    bool is_halfway = of->stream.pending > 0 || of->header > 0;
+    if (is_halfway && is_over(of->begun, setting(REQUEST_TIMEOUT))) return TCP_SLOW;
+    if (of->relays_count > 0) return COUNTS;
     if (is_over(of->heard, setting(IDLE_TIMEOUT))) return TCP_IDLE;
     if (is_over(of->accepted, setting(MAX_AGE))) return TCP_AGED;
     return COUNTS;

@@ -5,21 +5,20 @@
 #include <sys/random.h>
 
 enum {
-    SECRET_LENGTH = 32,
     FEW = 64, /* datagrams that are received from one relay socket before it is the others' turn */
     /* what comes before the data, the longest datagram, and zeros after it; an odd number of lines of
      * the cache spreads the rooms over it */
     PEER_ROOM = STUN_TYPES_TURN_HEAD + 65536 + 16 + 64,
-    IDS = 64
+    IDS = 64,
+    LEAST_OCTETS = 28, /* that a datagram counts as: the headers of IPv4 and UDP */
+    CHANNELS = 0x40, /* the least first byte of ChannelData, */
+    CHANNEL_HEAD = 4 /* and the length of its head */
 };
 
 /* What was settled before the workers started. */
 static struct {
     stun_types_turn_settings settings;
-    stun_types_prefix denied[MOST_PREFIXES], allowed[MOST_PREFIXES];
-    stun_types_address listening[MOST_LISTENING];
-    uint8_t secret[SECRET_LENGTH]; /* of the nonces of all processes */
-    rate_table *users;
+    rate_table *user_octets, *user_packets;
 } plan;
 
 static struct {
@@ -27,8 +26,6 @@ static struct {
     turn_process process;
     uint64_t now;
     user_keys keys;
-    relay **orphans; /* whose connections have been closed */
-    size_t orphans_count;
     stun_types_id ids[IDS]; /* random */
     size_t ids_left;
 } turn;
@@ -51,24 +48,23 @@ static size_t held;
 
 /* ---- The start ------------------------------------------------------------------------------- */
 
-bool complain(const char *what) {
-    fprintf(stderr, "stun-server: turn: %s\n", what);
-    return false;
+static void set_limits(void) {
+    plan.settings.limits = (stun_types_turn_limits){.relays = setting(ALLOCATIONS),
+                                                    .relays_per_user = setting(USER_ALLOCATIONS),
+                                                    .greatest_lifetime = setting(LIFETIME),
+                                                    .ipv4 = relays_family(4),
+                                                    .ipv6 = relays_family(6),
+                                                    .channel_permits = setting(CHANNEL_PERMITS) != 0,
+                                                    .old_channels = setting(OLD_CHANNELS) != 0};
 }
 
 static void set_settings(void) {
     bool has_hashes = text_setting(SECRET, 0) == NULL; /* a hash doesn't say until when it is valid */
-    const char *realm = text_setting(REALM, 0), *software = setting(SOFTWARE) ? "stun-types" : "";
+    const char *software = setting(SOFTWARE) ? "stun-types" : "";
     plan.settings.window = setting(NONCE_LIFETIME);
-    plan.settings.allocations = setting(ALLOCATIONS);
-    plan.settings.of_user = setting(USER_ALLOCATIONS);
-    plan.settings.greatest_lifetime = setting(LIFETIME);
+    set_limits();
     if (setting(SHA256)) plan.settings.features |= STUN_TYPES_FEATURE_PASSWORD_ALGORITHMS;
     if (has_hashes) plan.settings.features |= STUN_TYPES_FEATURE_USERNAME_ANONYMITY;
-    plan.settings.channel_permits = setting(CHANNEL_PERMITS);
-    plan.settings.old_channels = setting(OLD_CHANNELS);
-    plan.settings.realm = realm;
-    plan.settings.realm_length = strlen(realm);
     plan.settings.software = software;
     plan.settings.software_length = strlen(software);
 }
@@ -76,46 +72,46 @@ static void set_settings(void) {
 /* Makes a TURN server. */
 static bool make_server(stun_types_turn *made) {
     stun_types_key secret = STUN_TYPES_KEY_INIT;
+    plan.settings.realm = text_setting(REALM, 0);
+    plan.settings.realm_length = strlen(plan.settings.realm);
     size_t length = sizeof plan.settings.seed;
     if (getrandom(plan.settings.seed, length, 0) != (ssize_t)length) return cannot("no random numbers");
-    stun_types_answer answer = stun_types_key_from_bytes(&secret, plan.secret, sizeof plan.secret,
-                                                         STUN_TYPES_INTEGRITY_ANY);
-    if (answer.code == STUN_TYPES_OK) answer = stun_types_turn_new(made, &plan.settings, &secret);
+    if (!make_nonce_key(&secret)) return false;
+    stun_types_answer answer = stun_types_turn_new(made, &plan.settings, &secret);
     stun_types_key_free(&secret);
     return answer.code == STUN_TYPES_OK || complain(stun_types_status_text(answer.code));
 }
 
 bool prepare_turn(const endpoints *of) {
     stun_types_turn tried = STUN_TYPES_TURN_INIT;
-    if (text_setting(REALM, 0) == NULL) return complain("realm is missing");
+    if (text_setting(REALM, 0) == NULL) return complain("realm is missing; one, as example.org, is needed");
     if (text_setting(USERS, 0) == NULL && text_setting(SECRET, 0) == NULL) {
-        return complain("users and secret are missing");
+        return complain("users and secret are missing; one of them, a file, is needed");
     }
     for (const endpoint *at = of->all; at < of->all + of->count; at++) {
         if (at->stream || at->workers == 1) continue;
         return complain("processes can't share a socket that was passed: -j 1");
     }
-    if (!prepare_relays(of) || !make_users()) return false;
-    if (getrandom(plan.secret, sizeof plan.secret, 0) != sizeof plan.secret) {
-        return cannot("no random numbers");
-    }
+    if (!prepare_relays(of) || !make_users() || !prepare_nonces()) return false;
     set_settings();
-    plan.settings.denied = plan.denied;
-    plan.settings.denied_count = read_prefixes(DENY, plan.denied);
-    plan.settings.allowed = plan.allowed;
-    plan.settings.allowed_count = read_prefixes(ALLOW, plan.allowed);
-    plan.settings.listening = plan.listening;
-    plan.settings.listening_count = list_listening(of, plan.listening);
-    if ((plan.users = make_rate_table()) == NULL || !make_server(&tried)) return false;
+    if (!prepare_peers(of, &plan.settings) || !prepare_drain()) return false;
+    if ((plan.user_octets = make_rate_table()) == NULL) return false;
+    if ((plan.user_packets = make_rate_table()) == NULL || !make_server(&tried)) return false;
     stun_types_turn_free(&tried);
     return true;
+}
+
+void renew_turn(void) {
+    renew_alternates();
+    renew_peers(&plan.settings);
+    set_limits();
 }
 
 size_t turn_files(void) { return setting(TURN) ? setting(ALLOCATIONS) + 16 : 0; }
 
 bool begin_turn(const turn_process *of) {
     turn.process = *of;
-    turn.now = nanoseconds();
+    turn.now = nonce_time(nanoseconds());
     for (int i = 0; i < HELD; i++) {
         outgoing.messages[i].msg_hdr.msg_name = &outgoing.peers[i].bytes;
         outgoing.messages[i].msg_hdr.msg_iov = &outgoing.places[i];
@@ -126,30 +122,134 @@ bool begin_turn(const turn_process *of) {
         incoming[i].msg_hdr.msg_iov = &incoming_at[i];
         incoming[i].msg_hdr.msg_iovlen = 1;
     }
-    turn.orphans = calloc(setting(ALLOCATIONS), sizeof *turn.orphans);
-    if (turn.orphans == NULL || !make_server(&turn.server) || !begin_relays()) return false;
-    memset(plan.secret, 0, sizeof plan.secret);
+    if (!make_server(&turn.server) || !begin_relays()) return false;
+    (void)have_users_changed(); /* (they haven't, from now on) */
+    forget_nonce_secret();
     open_spares(turn.process.mine);
     return true;
 }
 
+/* Has the server take limits and rules that have changed. */
+static void follow_settings(void) {
+    const stun_types_turn_limits *limits = &plan.settings.limits;
+    if (limits->relays_per_user != setting(USER_ALLOCATIONS) || limits->greatest_lifetime != setting(LIFETIME)) {
+        set_limits();
+        stun_types_answer answer = stun_types_turn_set_limits(&turn.server, limits);
+        (void)answer; /* (there is a server, and nothing else is wrong) */
+    }
+    (void)follow_peers(&turn.server, &plan.settings);
+}
+
 void begin_turn_at(uint64_t now) {
-    turn.now = now;
+    turn.now = nonce_time(now);
+    follow_settings();
     held = 0;
+}
+
+/* ---- The end of relays ----------------------------------------------------------------------- */
+
+static void log_end(const relay *of, unsigned why) {
+    if (!is_logging()) return;
+    log_allocation(&(log_event){.kind = LOG_ENDED,
+                                .why = why,
+                                .tuple = of->client.tuple,
+                                .relayed = of->relayed,
+                                .lasted = turn.now - of->opened,
+                                .to_peer = of->to_peer,
+                                .to_client = of->to_client,
+                                .user = of->name});
+}
+
+static void close_relay(uint64_t number, unsigned why) {
+    relay *ended = find_relay(number);
+    count(turn.process.mine, TURN_ENDED, 1);
+    if (ended == NULL) return;
+    raise_by(&turn.process.mine->gauges[ALLOCATIONS_NOW], UINT64_MAX); /* (one less) */
+    log_end(ended, why);
+    if (turn.process.changed != NULL) turn.process.changed(ended, false);
+    free_relay(ended);
+}
+
+/* Closes the sockets that the last call ended: it says how many. What waits for them, and for their clients,
+ * is sent first. */
+static void close_ended(size_t ended, unsigned why) {
+    enum { MANY = 64 };
+    uint64_t numbers[MANY];
+    size_t got = 0;
+    if (ended == 0) return;
+    send_to_peers();
+    if (turn.process.flush != NULL) turn.process.flush();
+    for (size_t first = 0; first < ended; first += got) {
+        got = stun_types_turn_ended(&turn.server, numbers, MANY, first);
+        if (got == 0) return;
+        for (size_t i = 0; i < got; i++) close_relay(numbers[i], why);
+    }
+}
+
+/* (the calls for other causes end what has expired too: that goes first) */
+static void end_expired(void) {
+    close_ended(stun_types_turn_poll(&turn.server, turn.now), END_EXPIRED);
+}
+
+void end_relay(uint64_t number) {
+    end_expired();
+    close_ended(stun_types_turn_end(&turn.server, turn.now, number), END_CLOSED);
+}
+
+/* Ends the relays of users whom the file had and no longer has. */
+static void end_revoked(void) {
+    if (!have_users_changed()) return;
+    for (size_t slot = 0; slot < setting(ALLOCATIONS); slot++) {
+        const relay *at = relay_at(slot);
+        if (at == NULL || !at->is_listed || is_listed_user(&at->hash)) continue;
+        close_ended(stun_types_turn_end_user(&turn.server, turn.now, &at->hash), END_REVOKED);
+    }
+}
+
+void look_after_relays(void) {
+    end_expired();
+    end_revoked();
+    open_spares(turn.process.mine);
+}
+
+void log_last_relays(void) {
+    for (size_t slot = 0; setting(TURN) && slot < setting(ALLOCATIONS); slot++) {
+        const relay *at = relay_at(slot);
+        if (at != NULL) log_end(at, END_STOPPED);
+    }
 }
 
 /* ---- From a client --------------------------------------------------------------------------- */
 
+enum { ALLOCATE = 0x0003, REFRESH = 0x0004 };
+
+static bool is_request(const uint8_t *bytes, size_t length, int method) {
+    return length >= 2 && (bytes[0] << 8 | bytes[1]) == method;
+}
+
+/* Has the library refuse an Allocate request while the server is drained, or send its client elsewhere. */
+static void withhold(stun_types_turn_datagram *request) {
+    stun_types_address other = alternate_of(request->from.client.family);
+    memset(&request->ready, 0, sizeof request->ready);
+    stun_types_answer answer = stun_types_turn_set_alternate(&turn.server, &other);
+    (void)answer; /* (as above) */
+}
+
 static stun_types_answer pass_on(const turn_client *from, const uint8_t *bytes, size_t length,
                                  bool looked_up, uint8_t *room, size_t size,
                                  stun_types_turn_action *action) {
-    const stun_types_turn_datagram datagram = {.bytes = bytes,
-                                               .length = length,
-                                               .from = from->tuple,
-                                               .ready = *ready_sockets(),
-                                               .looked_up = looked_up};
-    return stun_types_turn_client(&turn.server, turn.now, &datagram, &turn.keys.md5,
-                                  &turn.keys.sha256, room, size, action);
+    stun_types_turn_datagram datagram = {.bytes = bytes,
+                                         .length = length,
+                                         .from = from->tuple,
+                                         .ready = *ready_sockets(),
+                                         .looked_up = looked_up};
+    bool refreshes = looked_up && is_request(bytes, length, REFRESH);
+    if (refreshes) end_expired();
+    if (looked_up && is_draining()) withhold(&datagram);
+    stun_types_answer answer = stun_types_turn_client(&turn.server, turn.now, &datagram, &turn.keys.md5,
+                                                      &turn.keys.sha256, room, size, action);
+    close_ended(action->ended, refreshes ? END_DELETED : END_EXPIRED);
+    return answer;
 }
 
 static void free_keys(void) {
@@ -167,42 +267,81 @@ static bool find_keys(const uint8_t *request, size_t length, unsigned attempt) {
 /* Passes a signed request on with the keys of its user: with each of them until one isn't refused. */
 static stun_types_answer pass_on_signed(const turn_client *from, const uint8_t *datagram, size_t length,
                                         uint8_t *room, size_t size, stun_types_turn_action *action) {
-    stun_types_answer answer;
+    stun_types_answer answer = {STUN_TYPES_OUT_OF_MEMORY, 0, 0, 0};
+    stun_types_address itself;
     unsigned attempt = 0;
     bool is_known;
+    if (binds_server(datagram, length, &itself) && !deny_server(&turn.server, &plan.settings, &itself)) return answer;
     do {
         is_known = find_keys(datagram, length, attempt);
         if (!is_known && attempt > 0) break;
         answer = pass_on(from, datagram, length, true, room, size, action);
         free_keys();
-    } while (is_known && answer.code == STUN_TYPES_OK && action->took == 0 &&
+    } while (is_known && answer.code == STUN_TYPES_OK && action->kind == STUN_TYPES_TURN_RESPONSE &&
              action->code == STUN_TYPES_CODE_UNAUTHORIZED && ++attempt > 0);
     return answer;
 }
 
-/* Keeps the socket of a new allocation. If it can't be waited for, the allocation has none. */
-static void keep_socket(const turn_client *of, const stun_types_turn_action *action) {
+static void log_open(const relay *of) {
+    if (!is_logging()) return;
+    log_allocation(&(log_event){.kind = LOG_OPENED,
+                                .tuple = of->client.tuple,
+                                .relayed = of->relayed,
+                                .user = of->name});
+}
+
+/* Has the log know of an Allocate request that is refused. A client's first one isn't signed, and refused by
+ * the rules: it doesn't count. */
+static void log_refusal(const turn_client *from, uint32_t code, bool is_signed) {
+    log_event event = {.kind = LOG_REFUSED, .code = code, .tuple = from->tuple};
+    if (!is_logging() || (code == STUN_TYPES_CODE_UNAUTHORIZED && !is_signed)) return;
+    if (is_signed) event.user = turn.keys.name;
+    log_allocation(&event);
+}
+
+/* Keeps the socket that a request took, if it took one. If it can't be waited for, the relay has none. */
+static void keep_socket(const turn_client *of, const stun_types_turn_opened *opened) {
     struct epoll_event event;
-    relay *taken = take_spare(&action->peer, action->relay);
+    if (!opened->took) return;
+    relay *taken = take_spare(&opened->relayed, opened->relay);
     open_spares(turn.process.mine);
     if (taken == NULL) return;
     taken->client = *of;
     taken->user = turn.keys.user;
+    taken->hash = turn.keys.hash;
+    taken->is_listed = turn.keys.is_listed;
+    taken->name = turn.keys.name;
+    taken->relayed = opened->relayed;
+    taken->opened = turn.now;
     memset(&event, 0, sizeof event);
     event.events = EPOLLIN;
-    event.data.u64 = turn.process.first + (action->relay & UINT32_MAX);
+    event.data.u64 = turn.process.first + relay_slot(taken);
     if (epoll_ctl(turn.process.poller, EPOLL_CTL_ADD, taken->socket, &event) != 0) {
         close_relay_socket(taken);
     }
     if (turn.process.changed != NULL) turn.process.changed(taken, true);
     count(turn.process.mine, TURN_ALLOCATED, 1);
+    raise_by(&turn.process.mine->gauges[ALLOCATIONS_NOW], 1);
+    log_open(taken);
 }
 
-/* Whether octets of data may pass by the bandwidths of an allocation and of its user. */
-static bool may_relay(relay *by, size_t octets) {
+/* Whether a datagram may pass by the packet rates of an allocation and of its user. */
+static bool may_count(relay *by) {
+    uint32_t rate = setting(PACKET_RATE), of_user = setting(USER_PACKET_RATE);
+    return (rate == 0 || may_pass_by(&by->packets_until, rate, 1, turn.now)) &&
+           (of_user == 0 || may_pass(plan.user_packets, by->user, of_user, 1, turn.now));
+}
+
+/* Whether its octets may pass by the bandwidths. */
+static bool may_weigh(relay *by, size_t octets) {
     uint32_t rate = setting(BANDWIDTH), of_user = setting(USER_BANDWIDTH);
-    bool may = (rate == 0 || may_pass_by(&by->paid_until, rate, octets, turn.now)) &&
-               (of_user == 0 || may_pass(plan.users, by->user, of_user, octets, turn.now));
+    if (octets < LEAST_OCTETS) octets = LEAST_OCTETS;
+    return (rate == 0 || may_pass_by(&by->octets_until, rate, octets, turn.now)) &&
+           (of_user == 0 || may_pass(plan.user_octets, by->user, of_user, octets, turn.now));
+}
+
+static bool may_relay(relay *by, size_t octets) {
+    bool may = may_count(by) && may_weigh(by, octets);
     if (!may) count(turn.process.mine, TURN_OVER, 1);
     return may;
 }
@@ -210,6 +349,8 @@ static bool may_relay(relay *by, size_t octets) {
 /* Has data wait to be sent to a peer. */
 static void send_later(const stun_types_turn_action *action, const uint8_t *datagram) {
     relay *from = find_relay(action->relay);
+    /* (no channel is bound to the server itself) */
+    if (datagram[0] < CHANNELS && is_server(&action->peer)) return;
     if (from == NULL || from->socket < 0 || !may_relay(from, action->length)) return;
     if (outgoing.count == HELD || copied + action->length > sizeof copies) send_to_peers();
     int at = outgoing.count++;
@@ -223,6 +364,8 @@ static void send_later(const stun_types_turn_action *action, const uint8_t *data
     outgoing.places[at].iov_base = (void *)(uintptr_t)data;
     outgoing.places[at].iov_len = action->length;
     outgoing.from[at] = from;
+    from->to_peer.datagrams++;
+    from->to_peer.octets += action->length;
     count(turn.process.mine, TURN_TO_PEER, 1);
     count(turn.process.mine, TURN_TO_PEER_OCTETS, action->length);
 }
@@ -237,9 +380,26 @@ void send_to_peers(void) {
     copied = 0;
 }
 
+/* Whether a socket is missing of those that are to be ready. */
+static bool lacks_socket(void) {
+    const stun_types_turn_ready *ready = ready_sockets();
+    return (relays_family(4) && (ready->any_ipv4.family == 0 || ready->even_ipv4.family == 0)) ||
+           (relays_family(6) && (ready->any_ipv6.family == 0 || ready->even_ipv6.family == 0));
+}
+
+/* Why a request was refused by a code. */
+static int cause_of(uint32_t code, bool is_signed) {
+    if (code == STUN_TYPES_CODE_UNAUTHORIZED) return is_signed ? REFUSED_CREDENTIALS : REFUSED_UNSIGNED;
+    if (code != STUN_TYPES_CODE_INSUFFICIENT_CAPACITY) return refusal_of(code);
+    if (is_draining()) return REFUSED_DRAINING;
+    if (stun_types_turn_count(&turn.server) >= setting(ALLOCATIONS)) return REFUSED_FULL;
+    return lacks_socket() ? REFUSED_NO_PORT : REFUSED_CAPACITY;
+}
+
 /* Counts a response by its code. */
-static void count_response(uint32_t code) {
+static void count_response(uint32_t code, bool is_signed) {
     if (code == 0) return;
+    raise_by(&turn.process.mine->refusals[cause_of(code, is_signed)], 1);
     count(turn.process.mine, code == STUN_TYPES_CODE_UNAUTHORIZED ? TURN_UNAUTHORIZED
                              : code == STUN_TYPES_CODE_STALE_NONCE ? TURN_STALE
                                                                    : TURN_REFUSED, 1);
@@ -247,18 +407,22 @@ static void count_response(uint32_t code) {
 
 turn_outcome take_from_client(const turn_client *from, const uint8_t *datagram, size_t length,
                               uint8_t *room, size_t size, size_t *written) {
-    stun_types_turn_action action = {.took = 0};
+    stun_types_turn_action action = {.ended = 0};
     stun_types_answer answer = pass_on(from, datagram, length, false, room, size, &action);
     bool is_signed = answer.code == STUN_TYPES_OK && action.kind == STUN_TYPES_TURN_NEEDS_KEY;
     if (is_signed) answer = pass_on_signed(from, datagram, length, room, size, &action);
-    if (action.took) keep_socket(from, &action);
+    keep_socket(from, &action.ipv4);
+    keep_socket(from, &action.ipv6);
     if (answer.code != STUN_TYPES_OK) return TURN_NOTHING_DUE;
     if (action.kind == STUN_TYPES_TURN_TO_PEER) {
         send_later(&action, datagram);
         return TURN_RELAYED;
     }
     if (action.kind != STUN_TYPES_TURN_RESPONSE) return TURN_NOTHING_DUE;
-    count_response(action.code);
+    count_response(action.code, is_signed);
+    if (action.code != 0 && is_request(datagram, length, ALLOCATE)) {
+        log_refusal(from, action.code, is_signed);
+    }
     *written = action.length;
     bool is_refused = action.code == STUN_TYPES_CODE_UNAUTHORIZED ||
                       action.code == STUN_TYPES_CODE_STALE_NONCE;
@@ -288,13 +452,17 @@ static void relay_data(relay *by, const struct sockaddr_storage *source, uint8_t
                              STUN_TYPES_TURN_HEAD, &delivery);
     if (answer.code != STUN_TYPES_OK || !delivery.sends) {
         count(turn.process.mine, TURN_DROPPED, 1);
+        close_ended(delivery.ended, END_EXPIRED);
         return;
     }
+    close_ended(delivery.ended, END_EXPIRED); /* (not this one, which is live) */
     if (!may_relay(by, length)) return;
     if (delivery.head_length > 4 && turn.ids_left > 0) turn.ids_left--;
     memset(room + STUN_TYPES_TURN_HEAD + length, 0, delivery.padding);
     turn.process.deliver(&by->client, room + STUN_TYPES_TURN_HEAD - delivery.head_length,
                          delivery.head_length + length + delivery.padding, alone);
+    by->to_client.datagrams++;
+    by->to_client.octets += length;
     count(turn.process.mine, TURN_TO_CLIENT, 1);
     count(turn.process.mine, TURN_TO_CLIENT_OCTETS, length);
 }
@@ -327,48 +495,4 @@ void take_from_peers(uint64_t number) {
         relay_data(by, &sources[i], rooms[held + i], incoming[i].msg_len, got == 1);
     }
     if (turn.process.flush != NULL) held += got; /* (otherwise their rooms are free again) */
-}
-
-/* ---- The end of allocations ------------------------------------------------------------------ */
-
-/* Takes a relay out of the orphans, if it is one. */
-static void forget_orphan(const relay *of) {
-    for (size_t i = 0; i < turn.orphans_count; i++) {
-        if (turn.orphans[i] == of) turn.orphans[i] = turn.orphans[--turn.orphans_count];
-    }
-}
-
-static void end_relay(uint64_t number) {
-    relay *ended = find_relay(number);
-    count(turn.process.mine, TURN_ENDED, 1);
-    if (ended == NULL) return;
-    forget_orphan(ended);
-    if (turn.process.changed != NULL) turn.process.changed(ended, false);
-    free_relay(ended);
-}
-
-void look_after_relays(void) {
-    enum { MANY = 64 };
-    uint64_t ended[MANY];
-    size_t count;
-    do {
-        count = stun_types_turn_poll(&turn.server, turn.now, ended, MANY);
-        for (size_t i = 0; i < count; i++) end_relay(ended[i]);
-    } while (count == MANY);
-    open_spares(turn.process.mine);
-}
-
-void orphan_relay(uint64_t number) {
-    relay *of = find_relay(number);
-    if (of == NULL) return;
-    send_to_peers();
-    turn.orphans[turn.orphans_count++] = of;
-    close_relay_socket(of);
-}
-
-bool is_orphaned(const stun_types_five_tuple *tuple) {
-    for (size_t i = 0; i < turn.orphans_count; i++) {
-        if (memcmp(&turn.orphans[i]->client.tuple, tuple, sizeof *tuple) == 0) return true;
-    }
-    return false;
 }

@@ -1,5 +1,5 @@
 /* The users of TURN, and the secrets by which a service makes names and passwords that are valid for a
- * time. The supervisor reads both files; a worker can't. So they are in memory that all processes share,
+ * time. A worker can't read the files. So they are in memory that all processes share,
  * twice: the next lists are written beside those that are in use, and then are the ones in use. */
 #include "server.h"
 
@@ -71,15 +71,24 @@ static bool make_key(const char *name, const char *password, stun_types_password
     return answer.code == STUN_TYPES_OK && written == length;
 }
 
-/* Reads a password, or a key after the name of its algorithm. */
+/* Reads a key after the name of its algorithm. */
+static bool read_key(const char *text, const char *algorithm, uint8_t *bytes, size_t length) {
+    return read_hex(text, bytes, length) ||
+           fault_is("%s with %zu characters; %zu hexadecimal digits are right", algorithm, strlen(text),
+                    2 * length);
+}
+
+/* Reads a password, or a key. */
 static bool read_password(const char *name, const char *password, user *of) {
-    of->has_md5 = strncmp(password, "md5:", 4) == 0 && read_hex(password + 4, of->md5, MD5_LENGTH);
-    of->has_sha256 =
-        strncmp(password, "sha256:", 7) == 0 && read_hex(password + 7, of->sha256, SHA256_LENGTH);
-    if (of->has_md5 || of->has_sha256) return true;
+    if (strncmp(password, "md5:", 4) == 0) {
+        return of->has_md5 = read_key(password + 4, "md5:", of->md5, MD5_LENGTH);
+    }
+    if (strncmp(password, "sha256:", 7) == 0) {
+        return of->has_sha256 = read_key(password + 7, "sha256:", of->sha256, SHA256_LENGTH);
+    }
     of->has_md5 = make_key(name, password, STUN_TYPES_PASSWORD_MD5, of->md5, MD5_LENGTH);
     of->has_sha256 = make_key(name, password, STUN_TYPES_PASSWORD_SHA256, of->sha256, SHA256_LENGTH);
-    return of->has_md5 && of->has_sha256;
+    return (of->has_md5 && of->has_sha256) || fault_is("the password isn't UTF-8, or too long");
 }
 
 static bool hash_name(const void *name, size_t length, stun_types_hash *hash) {
@@ -92,12 +101,16 @@ static bool add_user(user_lists *to, char *line, uint32_t number) {
     static const char blanks[] = " \t";
     size_t length = strcspn(line, blanks);
     char *password = line + length + strspn(line + length, blanks);
-    if (length == 0 || *password == 0 || to->users_count == MOST_USERS) return false;
+    if (length == 0 || *password == 0) {
+        return fault_is("a user without a password; NAME PASSWORD, NAME md5:KEY or NAME sha256:KEY is right");
+    }
+    if (to->users_count == MOST_USERS) return fault_is("a user too many; %d are right", MOST_USERS);
     line[length] = 0;
     user *added = &to->users[to->users_count];
     memset(added, 0, sizeof *added);
     added->line = number;
-    if (!hash_name(line, length, &added->hash) || !read_password(line, password, added)) return false;
+    if (!hash_name(line, length, &added->hash)) return fault_is("the name isn't UTF-8, or too long");
+    if (!read_password(line, password, added)) return false;
     to->users_count++;
     return true;
 }
@@ -105,7 +118,8 @@ static bool add_user(user_lists *to, char *line, uint32_t number) {
 static bool add_secret(user_lists *to, char *line, uint32_t number) {
     size_t length = strlen(line);
     (void)number;
-    if (length > SECRET_ROOM || to->secrets_count == MOST_SECRETS) return false;
+    if (length > SECRET_ROOM) return fault_is("%zu characters; at most %d are right", length, SECRET_ROOM);
+    if (to->secrets_count == MOST_SECRETS) return fault_is("a secret too many; %d are right", MOST_SECRETS);
     memcpy(to->secrets[to->secrets_count], line, length);
     to->secret_lengths[to->secrets_count++] = length;
     return true;
@@ -118,15 +132,22 @@ static int read_file(const char *path, user_lists *to,
     static char line[LINE_ROOM];
     int number = 0, wrong = 0;
     FILE *from = fopen(path, "re");
-    if (from == NULL) return -1;
+    if (from == NULL) {
+        fault_is("%s", strerror(errno));
+        return -1;
+    }
     while (wrong == 0 && fgets(line, sizeof line, from) != NULL) {
         bool is_whole = strchr(line, '\n') != NULL || strlen(line) + 1 < sizeof line;
         number++;
         line[strcspn(line, "\r\n")] = 0;
         if (*line == 0 || *line == '#') continue;
+        if (!is_whole) fault_is("a line of more than %d bytes", LINE_ROOM - 2);
         if (!is_whole || !add(to, line, (uint32_t)number)) wrong = number;
     }
-    if (ferror(from) != 0) wrong = -1;
+    if (ferror(from) != 0) {
+        fault_is("%s", strerror(errno));
+        wrong = -1;
+    }
     fclose(from);
     memset(line, 0, sizeof line);
     return wrong;
@@ -156,22 +177,27 @@ static int sort_users(user_lists *in) {
         bool is_new = last == NULL ||
                       memcmp(last->hash.bytes, next->hash.bytes, sizeof last->hash.bytes) != 0;
         if (is_new) in->users[kept++] = *next;
-        else if (!join(last, next)) return (int)next->line;
+        else if (!join(last, next)) {
+            fault_is("this user is in line %u too; one line is right, or one with md5: and one with sha256:",
+                     (unsigned)last->line);
+            return (int)next->line;
+        }
     }
     in->users_count = kept;
     return 0;
 }
 
-/* Reads both files into the lists that aren't in use. *path: of the file that is wrong. */
-static int read_files(user_lists *into, const char **path) {
-    const char *users = text_setting(USERS, 0), *secrets = text_setting(SECRET, 0);
+/* Reads both files. Returns the number of the first line that is wrong, or 0; -1: a file can't be read.
+ * *which: the file. */
+static int read_files(user_lists *into, int *which) {
+    const char *users = file_setting(USERS), *secrets = file_setting(SECRET);
     int wrong = 0;
     into->users_count = into->secrets_count = 0;
-    *path = users;
+    *which = USERS;
     if (users != NULL) wrong = read_file(users, into, add_user);
     if (wrong == 0) wrong = sort_users(into);
     if (wrong != 0 || secrets == NULL) return wrong;
-    *path = secrets;
+    *which = SECRET;
     return read_file(secrets, into, add_secret);
 }
 
@@ -183,29 +209,40 @@ static void use_lists(void) {
     atomic_fetch_add_explicit(&shared->turn, 1, memory_order_release);
 }
 
-bool make_users(void) {
-    const char *path;
-    shared = shared_memory(sizeof *shared);
-    if (shared == NULL) return false;
-    int wrong = read_files(unused_lists(), &path);
-    if (wrong < 0) return cannot(path);
-    if (wrong > 0) fprintf(stderr, "stun-server: %s:%d: no user, or no secret\n", path, wrong);
-    use_lists();
-    return wrong == 0;
+void read_users(users_report *report) {
+    user_lists *into = unused_lists();
+    memset(report, 0, sizeof *report);
+    report->wrong = read_files(into, &report->which);
+    report->error = report->wrong < 0 ? errno : 0;
+    report->users = into->users_count;
+    report->secrets = into->secrets_count;
+    if (report->wrong != 0) snprintf(report->reason, sizeof report->reason, "%s", fault_text());
 }
 
-bool read_users_again(void) {
-    const char *path;
-    user_lists *into = unused_lists();
-    int wrong = read_files(into, &path);
-    if (wrong != 0) {
-        say(FAILURE, "event=users-refused file=%s line=%d error=%d\n", path, wrong > 0 ? wrong : 0,
-            wrong > 0 ? 0 : errno);
-        return false;
-    }
+bool make_users(void) {
+    users_report report;
+    shared = shared_memory(sizeof *shared);
+    if (shared == NULL) return false;
+    read_users(&report);
+    if (report.wrong != 0) return refuse_file(file_setting(report.which), report.wrong);
     use_lists();
-    say(NEWS, "event=users-read users=%zu secrets=%zu\n", into->users_count, into->secrets_count);
     return true;
+}
+
+size_t count_users(void) {
+    if (shared == NULL) return 0;
+    return shared->lists[atomic_load_explicit(&shared->turn, memory_order_relaxed) % 2].users_count;
+}
+
+void use_users(const users_report *report) {
+    if (report->wrong == 0) {
+        use_lists();
+        say(NEWS, "event=users-read users=%zu secrets=%zu\n", report->users, report->secrets);
+        return;
+    }
+    (void)fault_is("%s", report->reason);
+    say(FAILURE, "event=users-refused file=%s line=%d error=%d reason=%s\n", file_setting(report->which),
+        report->wrong > 0 ? report->wrong : 0, report->error, fault_word());
 }
 
 /* A worker only reads them, and one that serves nobody has none. */
@@ -238,6 +275,19 @@ static bool copy_user(const stun_types_hash *hash, user *copy) {
         atomic_thread_fence(memory_order_acquire);
         if (atomic_load_explicit(&shared->turn, memory_order_relaxed) == turn) return found != NULL;
     }
+}
+
+bool is_listed_user(const stun_types_hash *hash) {
+    user found;
+    return copy_user(hash, &found);
+}
+
+bool have_users_changed(void) {
+    static uint32_t seen;
+    uint32_t turn = atomic_load_explicit(&shared->turn, memory_order_acquire);
+    bool is_new = seen != 0 && turn != seen;
+    seen = turn;
+    return is_new;
 }
 
 /* Copies a secret. Returns its length, 0: there is none. */
@@ -310,14 +360,25 @@ static bool find_hash(const uint8_t *request, size_t length, stun_types_hash *ha
     return true;
 }
 
+static void keep_name(const uint8_t *bytes, const stun_types_attribute *of, user_name *kept) {
+    kept->is_hash = of->type == STUN_TYPES_ATTRIBUTE_USERHASH;
+    kept->is_cut = of->length > sizeof kept->bytes;
+    kept->length = kept->is_cut ? sizeof kept->bytes : of->length;
+    memcpy(kept->bytes, bytes, kept->length);
+}
+
 bool find_user(const uint8_t *request, size_t length, unsigned attempt, user_keys *found) {
     stun_types_hash hash;
     stun_types_attribute name;
     user known;
+    found->name.length = 0;
     if (!find_hash(request, length, &hash, &name)) return false;
+    keep_name(request + name.value_at, &name, &found->name);
     memcpy(&found->user, hash.bytes, sizeof found->user);
     found->user |= 1;
-    if (copy_user(&hash, &known)) {
+    found->hash = hash;
+    found->is_listed = copy_user(&hash, &known);
+    if (found->is_listed) {
         return attempt == 0 && (!known.has_md5 || set_key(&found->md5, known.md5, MD5_LENGTH)) &&
                (!known.has_sha256 || set_key(&found->sha256, known.sha256, SHA256_LENGTH));
     }

@@ -5,6 +5,8 @@
 #define SECOND ((uint64_t)1000000000)
 #define COUNT(array) (sizeof(array) / sizeof *(array))
 
+enum { DONT_FRAGMENT = 0x001A };
+
 static bool is_same_ip(const stun_types_address *one, const stun_types_address *other) {
     return one->family == other->family
            && memcmp(one->octets, other->octets, one->family == 4 ? 4 : 16) == 0;
@@ -68,28 +70,35 @@ static void forget(model_lease *leases, size_t *count, uint64_t clock) {
     *count = left;
 }
 
-/* Moves the clock, unless it goes back, and forgets what is over. */
+static void end(model_turn *turn, model_allocation *it) {
+    it->takes_place = false;
+    turn->ended[turn->ended_count++] = it->relay;
+}
+
+/* Moves the clock, unless it goes back, and ends and forgets what is over. */
 static void advance(model_turn *turn, uint64_t now) {
     size_t i;
+    turn->ended_count = 0;
     if (now > turn->clock) turn->clock = now;
     for (i = 0; i < MODEL_TURN_ALLOCATIONS; i++) {
-        forget(turn->all[i].permissions, &turn->all[i].permission_count, turn->clock);
-        forget(turn->all[i].channels, &turn->all[i].channel_count, turn->clock);
+        model_allocation *it = &turn->all[i];
+        if (it->takes_place && it->until <= turn->clock) end(turn, it);
+        forget(it->permissions, &it->permission_count, turn->clock);
+        forget(it->channels, &it->channel_count, turn->clock);
     }
 }
 
-static bool is_live(const model_turn *turn, const model_allocation *it) {
-    return it->takes_place && turn->clock < it->until;
+static bool is_of(const model_allocation *it, const stun_types_five_tuple *from) {
+    return it->takes_place && model_is_same_address(&it->from.client, &from->client)
+           && model_is_same_address(&it->from.server, &from->server) && it->from.stream == from->stream;
 }
 
-static model_allocation *allocation_of(model_turn *turn, const stun_types_five_tuple *from) {
+/* The relayed address that a client has of a family, or any of them if it is 0. */
+static model_allocation *relay_of(model_turn *turn, const stun_types_five_tuple *from, uint16_t family) {
     size_t i;
     for (i = 0; i < MODEL_TURN_ALLOCATIONS; i++) {
         model_allocation *it = &turn->all[i];
-        if (is_live(turn, it) && model_is_same_address(&it->from.client, &from->client)
-            && model_is_same_address(&it->from.server, &from->server)
-            && it->from.stream == from->stream)
-            return it;
+        if (is_of(it, from) && (family == 0 || it->relayed.family == family)) return it;
     }
     return NULL;
 }
@@ -115,22 +124,16 @@ static model_lease *channel_of(model_allocation *it, unsigned number) {
     return NULL;
 }
 
-/* Renews a permission, or adds one; false if there is no room. */
-static bool put_permission(const model_turn *turn, model_allocation *it,
-                           const stun_types_address *peer) {
+/* Renews a permission for so many seconds, or adds one; false if there is no room. */
+static bool put_permission(const model_turn *turn, model_allocation *it, const stun_types_address *peer,
+                           unsigned seconds) {
     model_lease *lease = permission_of(it, peer);
     if (lease == NULL && it->permission_count == MODEL_TURN_ROOM) return false;
     if (lease == NULL) lease = &it->permissions[it->permission_count++];
     lease->peer = *peer;
     lease->number = 0;
-    lease->until = turn->clock + 300 * SECOND;
+    lease->until = turn->clock + seconds * SECOND;
     return true;
-}
-
-static bool is_permitted(const model_turn *turn, model_allocation *it,
-                         const stun_types_address *peer) {
-    return permission_of(it, peer) != NULL
-           || (turn->settings.channel_permits != 0 && channel_to(it, peer) != NULL);
 }
 
 /* ---- what a message says */
@@ -152,7 +155,7 @@ static bool is_malformed(const view *it, unsigned type, size_t wanted) {
     return value_of(it, type, &length) != NULL && length != wanted;
 }
 
-static bool is_comprehended(const view *it) {
+static bool is_comprehended(const model_turn *turn, const view *it) {
     static const uint16_t known[] = {0x0001, 0x0006, 0x0008, 0x0009, 0x000A, 0x000C, 0x000D,
                                      0x0012, 0x0013, 0x0014, 0x0015, 0x0016, 0x0017, 0x0018,
                                      0x0019, 0x001C, 0x001D, 0x001E, 0x0020, 0x0022};
@@ -160,6 +163,7 @@ static bool is_comprehended(const view *it) {
     for (i = 0; i < it->shown.count; i++) {
         for (j = 0; j < COUNT(known) && known[j] != it->shown.all[i].type; j++) {
         }
+        if (it->shown.all[i].type == DONT_FRAGMENT && turn->settings.limits.dont_fragment != 0) continue;
         if (j == COUNT(known) && it->shown.all[i].type < 0x8000) return false;
     }
     return true;
@@ -198,22 +202,33 @@ static uint32_t granted(const model_turn *turn, const view *it, bool is_allocate
     const uint8_t *value = value_of(it, 0x000D, &length);
     uint32_t wanted = value == NULL ? 600 : number_of(value);
     if (wanted == 0 && !is_allocate) return 0;
-    if (wanted > turn->settings.greatest_lifetime) wanted = turn->settings.greatest_lifetime;
+    if (wanted > turn->settings.limits.greatest_lifetime) wanted = turn->settings.limits.greatest_lifetime;
     return wanted < 600 ? 600 : wanted;
 }
 
 /* ---- requests */
 
-/* Why an Allocate request gets no socket, or 0 and its address. */
-static uint32_t wish_of(const view *it, const stun_types_address *client,
-                        const stun_types_turn_ready *ready, stun_types_address *address) {
+/* The relayed addresses that an Allocate request wants, of IPv4 and of IPv6: each with the socket that is
+   ready, or none. */
+typedef struct {
+    bool is_wanted[2];
+    stun_types_address ready[2];
+} wish;
+
+static bool has_family(const model_turn *turn, size_t which) {
+    return (which == 0 ? turn->settings.limits.ipv4 : turn->settings.limits.ipv6) != 0;
+}
+
+/* Why the octets of an Allocate request are unfit, or 0 and what it wants. */
+static uint32_t wish_of(const model_turn *turn, const model_allocation *there, const view *it,
+                        const stun_types_turn_ready *ready, wish *wanted) {
     static const struct {
         unsigned type;
         size_t length;
     } fixed[] = {{0x000D, 4}, {0x0017, 4}, {0x0018, 1}, {0x0022, 8}, {0x8000, 4}};
     size_t length, i;
     const uint8_t *transport = value_of(it, 0x0019, &length), *family, *even, *token, *other;
-    if (is_tunnelled(client)) return 403;
+    memset(wanted, 0, sizeof *wanted);
     if (transport == NULL || length != 4) return 400;
     if (transport[0] != 17) return 442;
     for (i = 0; i < COUNT(fixed); i++)
@@ -225,127 +240,199 @@ static uint32_t wish_of(const view *it, const stun_types_address *client,
     if (token != NULL && (family != NULL || even != NULL || other != NULL)) return 400;
     if (other != NULL && (family != NULL || other[0] != 2 || (even != NULL && even[0] >= 0x80)))
         return 400;
-    if (token != NULL) return 508;
-    if (family != NULL && family[0] != 1 && family[0] != 2) return 440;
-    if (family != NULL && family[0] == 2) {
-        if (ready->ipv6 == 0) return 440;
-        *address = even == NULL ? ready->any_ipv6 : ready->even_ipv6;
-    } else {
-        if (ready->ipv4 == 0) return 440;
-        *address = even == NULL ? ready->any_ipv4 : ready->even_ipv4;
+    /* (no port is reserved: the token of one is refused as if no socket were ready) */
+    if (token != NULL) {
+        wanted->is_wanted[has_family(turn, 0) ? 0 : 1] = there == NULL;
+        return 0;
     }
-    return (even != NULL && even[0] >= 0x80) || address->family == 0 ? 508 : 0;
+    if (family != NULL && family[0] != 1 && family[0] != 2) return 440;
+    wanted->is_wanted[0] = family == NULL || family[0] == 1;
+    wanted->is_wanted[1] = other != NULL || (family != NULL && family[0] == 2);
+    if (even != NULL && even[0] >= 0x80) return 0;
+    wanted->ready[0] = even == NULL ? ready->any_ipv4 : ready->even_ipv4;
+    wanted->ready[1] = even == NULL ? ready->any_ipv6 : ready->even_ipv6;
+    return 0;
 }
 
-/* A place for an allocation of a user, or why there is none. */
-static uint32_t place_for(model_turn *turn, unsigned user, uint32_t wish,
-                          model_allocation **place) {
-    size_t i, taken = 0, of_user = 0;
-    *place = NULL;
+/* A place for a relayed address of a user; NULL, and the code. */
+static model_allocation *place_for(model_turn *turn, unsigned user, uint32_t *code) {
+    size_t i, taken = 0, relays_per_user = 0;
+    model_allocation *place = NULL;
     for (i = 0; i < MODEL_TURN_ALLOCATIONS; i++) {
         taken += turn->all[i].takes_place;
-        of_user += is_live(turn, &turn->all[i]) && turn->all[i].user == user;
-        if (!turn->all[i].takes_place) *place = &turn->all[i];
+        relays_per_user += turn->all[i].takes_place && turn->all[i].user == user;
+        if (!turn->all[i].takes_place) place = &turn->all[i];
     }
-    if (wish != 0 && wish != 508) return wish;
-    if (of_user >= turn->settings.of_user) return 486;
-    return wish != 0 || taken >= turn->settings.allocations ? 508 : 0;
+    *code = relays_per_user >= turn->settings.limits.relays_per_user ? 486 : taken >= turn->settings.limits.relays ? 508 : 0;
+    return *code == 0 ? place : NULL;
+}
+
+/* What the client has, and the code for each family that it wants and hasn't. */
+static void show(model_turn *turn, const stun_types_five_tuple *from, const wish *wanted,
+                 model_turn_done *done) {
+    uint64_t left = UINT64_MAX;
+    size_t i;
+    for (i = 0; i < 2; i++) {
+        const model_allocation *it = relay_of(turn, from, i == 0 ? 4 : 6);
+        if (it != NULL) done->relayed[i] = it->relayed;
+        else if (wanted->is_wanted[i]) done->missing[i] = has_family(turn, i) ? 508 : 440;
+        if (it != NULL && it->until - turn->clock < left) left = it->until - turn->clock;
+    }
+    done->has_lifetime = true;
+    done->lifetime = (uint32_t)(left / SECOND);
+}
+
+static void open_relay(model_turn *turn, const stun_types_five_tuple *from, const view *it, unsigned user,
+                       const stun_types_address *address, model_allocation *place) {
+    memset(place, 0, sizeof *place);
+    place->takes_place = true;
+    place->from = *from;
+    place->user = user;
+    memcpy(place->id, it->bytes + 8, 12);
+    place->relayed = *address;
+    place->relay = UINT64_MAX;
+    place->until = turn->clock + granted(turn, it, true) * SECOND;
 }
 
 static uint32_t allocate(model_turn *turn, const stun_types_five_tuple *from,
                          const stun_types_turn_ready *ready, const view *it, unsigned user,
                          model_turn_done *done) {
-    model_allocation *there = allocation_of(turn, from), *place;
-    stun_types_address address;
-    uint32_t code;
-    done->has_lifetime = true;
+    const model_allocation *there = relay_of(turn, from, 0);
+    wish wanted;
+    uint32_t code = wish_of(turn, there, it, ready, &wanted), full;
+    bool is_offered = false, is_ready = false;
+    size_t i;
     if (there != NULL) {
-        if (there->user != user || memcmp(there->id, it->bytes + 8, 12) != 0) return 437;
-        done->lifetime = (uint32_t)((there->until - turn->clock) / SECOND);
-        done->action.peer = there->relayed;
+        if (code != 0 || there->user != user || memcmp(there->id, it->bytes + 8, 12) != 0) return 437;
+        show(turn, from, &wanted, done);
         return 0;
     }
-    code = wish_of(it, &from->client, ready, &address);
-    code = place_for(turn, user, code, &place);
+    if (is_tunnelled(&from->client)) return 403;
     if (code != 0) return code;
-    memset(place, 0, sizeof *place);
-    done->lifetime = granted(turn, it, true);
-    place->takes_place = true;
-    place->from = *from;
-    place->user = user;
-    memcpy(place->id, it->bytes + 8, 12);
-    place->relayed = done->action.peer = address;
-    place->until = turn->clock + done->lifetime * SECOND;
-    done->action.took = 1;
-    done->opened = place;
+    for (i = 0; i < 2; i++) {
+        is_offered |= wanted.is_wanted[i] && has_family(turn, i);
+        is_ready |= wanted.is_wanted[i] && has_family(turn, i) && wanted.ready[i].family != 0;
+    }
+    if (!is_offered) return 440;
+    if (place_for(turn, user, &full) == NULL) return full;
+    if (!is_ready) return 508;
+    for (i = 0; i < 2; i++) {
+        model_allocation *place = place_for(turn, user, &full);
+        if (!wanted.is_wanted[i] || !has_family(turn, i) || wanted.ready[i].family == 0 || place == NULL)
+            continue;
+        open_relay(turn, from, it, user, &wanted.ready[i], place);
+        done->opened[i] = place;
+    }
+    show(turn, from, &wanted, done);
     return 0;
 }
 
-static uint32_t refresh(model_turn *turn, model_allocation *there, const view *it,
+static uint32_t refresh(model_turn *turn, const stun_types_five_tuple *from, const view *it,
                         model_turn_done *done) {
-    size_t length;
-    const uint8_t *family = value_of(it, 0x0017, &length);
+    size_t length, i;
+    const uint8_t *value = value_of(it, 0x0017, &length);
+    const uint32_t lifetime = granted(turn, it, false);
+    uint16_t family;
     if (is_malformed(it, 0x0017, 4) || is_malformed(it, 0x000D, 4)) return 400;
-    if (family != NULL && family[0] != (there->relayed.family == 4 ? 1 : 2)) return 443;
+    family = value == NULL ? 0 : value[0] == 1 ? 4 : value[0] == 2 ? 6 : 1;
+    if (relay_of(turn, from, family) == NULL) return 443;
     done->has_lifetime = true;
-    done->lifetime = granted(turn, it, false);
-    there->until = turn->clock + done->lifetime * SECOND;
+    done->lifetime = lifetime;
+    for (i = 0; i < MODEL_TURN_ALLOCATIONS; i++) {
+        model_allocation *there = &turn->all[i];
+        if (!is_of(there, from) || (family != 0 && there->relayed.family != family)) continue;
+        there->until = turn->clock + lifetime * SECOND;
+        if (lifetime == 0) end(turn, there);
+    }
     return 0;
 }
 
-static uint32_t permit(const model_turn *turn, model_allocation *there, const view *it) {
+/* Permits the peers of each family by the relayed address of that family, or none of them. */
+static uint32_t permit_all(model_turn *turn, const stun_types_five_tuple *from,
+                           const stun_types_address *peers, size_t count, unsigned seconds) {
+    size_t i, which;
+    model_allocation next[2], *there[2];
+    for (which = 0; which < 2; which++) {
+        there[which] = relay_of(turn, from, which == 0 ? 4 : 6);
+        if (there[which] == NULL) continue;
+        next[which] = *there[which];
+        for (i = 0; i < count; i++)
+            if (peers[i].family == (which == 0 ? 4 : 6)
+                && !put_permission(turn, &next[which], &peers[i], seconds))
+                return 508;
+    }
+    for (which = 0; which < 2; which++)
+        if (there[which] != NULL) *there[which] = next[which];
+    return 0;
+}
+
+static uint32_t permit(model_turn *turn, const stun_types_five_tuple *from, const view *it) {
     static stun_types_address peers[MODEL_ATTRIBUTES];
-    model_allocation next = *there;
     size_t count, i;
     if (!peers_of(it, peers, &count) || count == 0) return 400;
     if (count > MODEL_TURN_PEERS) return 508;
     for (i = 0; i < count; i++)
-        if (peers[i].family != there->relayed.family) return 443;
+        if (relay_of(turn, from, peers[i].family) == NULL) return 443;
     for (i = 0; i < count; i++)
         if (!is_allowed(&peers[i])) return 403;
-    for (i = 0; i < count; i++)
-        if (!put_permission(turn, &next, &peers[i])) return 508;
-    *there = next;
+    return permit_all(turn, from, peers, count, 300);
+}
+
+static uint32_t bind_channel(model_turn *turn, const stun_types_five_tuple *from, const view *it) {
+    stun_types_address peer;
+    size_t length, i, j;
+    const uint8_t *value = value_of(it, 0x000C, &length);
+    model_allocation *there;
+    model_lease *bound;
+    unsigned number;
+    uint32_t code;
+    if (value == NULL || length != 4 || !peer_of(it, &peer)) return 400;
+    number = model_number(value);
+    if (number < 0x4000 || number > (turn->settings.limits.old_channels != 0 ? 0x7FFFu : 0x4FFFu))
+        return 400;
+    for (i = 0; i < MODEL_TURN_ALLOCATIONS; i++)
+        for (j = 0; is_of(&turn->all[i], from) && j < turn->all[i].channel_count; j++) {
+            const model_lease *one = &turn->all[i].channels[j];
+            if ((one->number == number) != model_is_same_address(&one->peer, &peer)) return 400;
+        }
+    there = relay_of(turn, from, peer.family);
+    if (there == NULL) return 443;
+    if (!is_allowed(&peer) || model_is_same_address(&peer, &turn->listening)) return 403;
+    bound = channel_of(there, number);
+    if (bound == NULL && there->channel_count == MODEL_TURN_ROOM) return 508;
+    code = permit_all(turn, from, &peer, 1, turn->settings.limits.channel_permits != 0 ? 600 : 300);
+    if (code != 0) return code;
+    if (bound == NULL) bound = &there->channels[there->channel_count++];
+    bound->number = number;
+    bound->peer = peer;
+    bound->until = turn->clock + 600 * SECOND;
     return 0;
 }
 
-static uint32_t bind_channel(const model_turn *turn, model_allocation *there, const view *it) {
-    stun_types_address peer;
+/* The code of an Allocate request, which is sent to another server if there is one, and no room here. */
+static uint32_t allocate_here_or_there(model_turn *turn, const stun_types_five_tuple *from,
+                                       const stun_types_turn_ready *ready, const view *it, unsigned user,
+                                       model_turn_done *done) {
     size_t length;
-    const uint8_t *value = value_of(it, 0x000C, &length);
-    model_allocation next = *there;
-    model_lease *by_number, *by_peer;
-    unsigned number;
-    if (value == NULL || length != 4 || !peer_of(it, &peer)) return 400;
-    number = model_number(value);
-    if (number < 0x4000 || number > (turn->settings.old_channels != 0 ? 0x7FFFu : 0x4FFFu))
-        return 400;
-    by_number = channel_of(&next, number);
-    by_peer = channel_to(&next, &peer);
-    if (by_number != by_peer) return 400;
-    if (peer.family != there->relayed.family) return 443;
-    if (!is_allowed(&peer) || model_is_same_address(&peer, &turn->listening)) return 403;
-    if (!put_permission(turn, &next, &peer)) return 508;
-    if (by_number == NULL && next.channel_count == MODEL_TURN_ROOM) return 508;
-    if (by_number == NULL) by_number = &next.channels[next.channel_count++];
-    by_number->number = number;
-    by_number->peer = peer;
-    by_number->until = turn->clock + 600 * SECOND;
-    *there = next;
-    return 0;
+    const uint32_t code = allocate(turn, from, ready, it, user, done);
+    if (code != 508 || turn->alternate.family != from->client.family || value_of(it, 0x0022, &length) != NULL)
+        return code;
+    done->alternate = turn->alternate;
+    return 300;
 }
 
 /* The code of the answer to a user's request. */
 static uint32_t answer(model_turn *turn, const stun_types_five_tuple *from,
                        const stun_types_turn_ready *ready, const view *it, unsigned method,
                        unsigned user, model_turn_done *done) {
-    model_allocation *there = allocation_of(turn, from);
-    if (method == STUN_TYPES_METHOD_ALLOCATE) return allocate(turn, from, ready, it, user, done);
+    const model_allocation *there = relay_of(turn, from, 0);
+    if (method == STUN_TYPES_METHOD_ALLOCATE)
+        return allocate_here_or_there(turn, from, ready, it, user, done);
     if (there == NULL) return 437;
     if (there->user != user) return 441;
-    if (method == STUN_TYPES_METHOD_REFRESH) return refresh(turn, there, it, done);
-    if (method == STUN_TYPES_METHOD_CREATE_PERMISSION) return permit(turn, there, it);
-    return bind_channel(turn, there, it);
+    if (method == STUN_TYPES_METHOD_REFRESH) return refresh(turn, from, it, done);
+    if (method == STUN_TYPES_METHOD_CREATE_PERMISSION) return permit(turn, from, it);
+    return bind_channel(turn, from, it);
 }
 
 unsigned model_turn_user(const model_turn *turn, const uint8_t *bytes, size_t length) {
@@ -409,11 +496,10 @@ static void request(model_turn *turn, uint64_t now, const stun_types_five_tuple 
     done->key = told.password_algorithm == STUN_TYPES_PASSWORD_SHA256 ? turn->users[user].sha256
                                                                       : turn->users[user].md5;
     done->algorithm = told.reply_algorithm;
-    if (!is_comprehended(it)) {
+    if (!is_comprehended(turn, it)) {
         done->action.code = 420;
         return;
     }
-    advance(turn, now);
     done->action.code = answer(turn, from, ready, it, method, user, done);
     if (done->action.code != 0) done->has_lifetime = false;
 }
@@ -421,9 +507,9 @@ static void request(model_turn *turn, uint64_t now, const stun_types_five_tuple 
 /* ---- datagrams */
 
 /* Data to a peer, if it is relayed. */
-static void relay(model_turn *turn, model_allocation *there, const stun_types_address *peer,
+static void relay(const model_turn *turn, const model_allocation *there, const stun_types_address *peer,
                   size_t at, size_t length, model_turn_done *done) {
-    if (!is_permitted(turn, there, peer) || model_is_same_address(peer, &turn->listening)) return;
+    if (model_is_same_address(peer, &turn->listening)) return;
     done->action.kind = STUN_TYPES_TURN_TO_PEER;
     done->action.relay = there->relay;
     done->action.peer = *peer;
@@ -431,29 +517,31 @@ static void relay(model_turn *turn, model_allocation *there, const stun_types_ad
     done->action.length = length;
 }
 
-static void channel_data(model_turn *turn, uint64_t now, const stun_types_five_tuple *from,
-                         const uint8_t *bytes, size_t length, model_turn_done *done) {
-    model_allocation *there;
-    model_lease *channel;
-    size_t data;
+/* (it needs its channel, and no permission) */
+static void channel_data(model_turn *turn, const stun_types_five_tuple *from, const uint8_t *bytes,
+                         size_t length, model_turn_done *done) {
+    size_t data, i;
     if (length < 4) return;
     data = model_number(bytes + 2);
     if (length < 4 + data) return;
-    advance(turn, now);
-    there = allocation_of(turn, from);
-    channel = there == NULL ? NULL : channel_of(there, model_number(bytes));
-    if (channel != NULL) relay(turn, there, &channel->peer, 4, data, done);
+    for (i = 0; i < MODEL_TURN_ALLOCATIONS; i++) {
+        model_allocation *there = &turn->all[i];
+        const model_lease *channel = channel_of(there, model_number(bytes));
+        if (is_of(there, from) && channel != NULL) relay(turn, there, &channel->peer, 4, data, done);
+    }
 }
 
-static void indication(model_turn *turn, uint64_t now, const stun_types_five_tuple *from,
-                       const view *it, model_turn_done *done) {
+static void indication(model_turn *turn, const stun_types_five_tuple *from, const view *it,
+                       model_turn_done *done) {
     const stun_types_attribute *data = model_find(&it->shown, 0x0013);
     stun_types_address peer;
     model_allocation *there;
-    if (!is_comprehended(it) || data == NULL || !peer_of(it, &peer)) return;
-    advance(turn, now);
-    there = allocation_of(turn, from);
-    if (there != NULL) relay(turn, there, &peer, data->value_at, data->length, done);
+    if (!is_comprehended(turn, it) || data == NULL || !peer_of(it, &peer)) return;
+    there = relay_of(turn, from, peer.family);
+    if (there != NULL && permission_of(there, &peer) != NULL)
+        relay(turn, there, &peer, data->value_at, data->length, done);
+    if (done->action.kind == STUN_TYPES_TURN_TO_PEER)
+        done->action.dont_fragment = model_find(&it->shown, DONT_FRAGMENT) != NULL;
 }
 
 void model_turn_client(model_turn *turn, uint64_t now, const stun_types_five_tuple *from,
@@ -462,9 +550,10 @@ void model_turn_client(model_turn *turn, uint64_t now, const stun_types_five_tup
     static view it;
     unsigned type, method;
     memset(done, 0, sizeof *done);
+    advance(turn, now);
     if (length == 0) return;
-    if (bytes[0] >= 0x40 && bytes[0] <= (turn->settings.old_channels != 0 ? 0x7F : 0x4F)) {
-        channel_data(turn, now, from, bytes, length, done);
+    if (bytes[0] >= 0x40 && bytes[0] <= (turn->settings.limits.old_channels != 0 ? 0x7F : 0x4F)) {
+        channel_data(turn, from, bytes, length, done);
         return;
     }
     if (model_parse(bytes, length).code != STUN_TYPES_OK) return;
@@ -473,11 +562,11 @@ void model_turn_client(model_turn *turn, uint64_t now, const stun_types_five_tup
     type = model_number(bytes);
     method = (type & 0x000F) | (type & 0x00E0) >> 1 | (type & 0x3E00) >> 2;
     if ((type & 0x0110) == 0x0010 && method == STUN_TYPES_METHOD_SEND)
-        indication(turn, now, from, &it, done);
+        indication(turn, from, &it, done);
     if ((type & 0x0110) != 0) return;
     if (method == STUN_TYPES_METHOD_BINDING) {
         done->action.kind = STUN_TYPES_TURN_RESPONSE;
-        done->action.code = is_comprehended(&it) ? 0 : 420;
+        done->action.code = is_comprehended(turn, &it) ? 0 : 420;
     }
     if (method == STUN_TYPES_METHOD_ALLOCATE || method == STUN_TYPES_METHOD_REFRESH
         || method == STUN_TYPES_METHOD_CREATE_PERMISSION
@@ -496,7 +585,7 @@ unsigned model_turn_peer(model_turn *turn, uint64_t now, uint64_t relayed,
         const model_lease *channel = channel_to(it, peer);
         const bool is_ipv4 = it->from.client.family == 4;
         const size_t most = it->from.stream ? STUN_TYPES_GREATEST_MESSAGE : is_ipv4 ? 65507 : 65527;
-        if (!is_live(turn, it) || it->relay != relayed || !is_permitted(turn, it, peer)) continue;
+        if (!it->takes_place || it->relay != relayed || permission_of(it, peer) == NULL) continue;
         head = channel != NULL ? 4 : peer->family == 4 ? 36 : 48;
         if (length > 65535 || head + length + (channel == NULL ? zeros : 0) > most) return 0;
         delivery->to = it->from;
@@ -508,21 +597,18 @@ unsigned model_turn_peer(model_turn *turn, uint64_t now, uint64_t relayed,
     return 0;
 }
 
-size_t model_turn_ended(model_turn *turn, uint64_t now) {
-    size_t i, count = 0;
+void model_turn_poll(model_turn *turn, uint64_t now) { advance(turn, now); }
+
+void model_turn_end(model_turn *turn, uint64_t now, uint64_t relayed) {
+    size_t i;
     advance(turn, now);
     for (i = 0; i < MODEL_TURN_ALLOCATIONS; i++)
-        count += turn->all[i].takes_place && !is_live(turn, &turn->all[i]);
-    return count;
+        if (turn->all[i].takes_place && turn->all[i].relay == relayed) end(turn, &turn->all[i]);
 }
 
-bool model_turn_report(model_turn *turn, uint64_t relayed) {
+void model_turn_end_user(model_turn *turn, uint64_t now, unsigned user) {
     size_t i;
-    for (i = 0; i < MODEL_TURN_ALLOCATIONS; i++) {
-        model_allocation *it = &turn->all[i];
-        if (!it->takes_place || is_live(turn, it) || it->relay != relayed) continue;
-        it->takes_place = false;
-        return true;
-    }
-    return false;
+    advance(turn, now);
+    for (i = 0; i < MODEL_TURN_ALLOCATIONS; i++)
+        if (turn->all[i].takes_place && turn->all[i].user == user) end(turn, &turn->all[i]);
 }

@@ -13,8 +13,9 @@ typedef struct {
     uint64_t until;
 } model_lease;
 
+/* A relayed address. */
 typedef struct {
-    bool takes_place; /* until its end is reported */
+    bool takes_place;
     stun_types_five_tuple from;
     unsigned user;
     uint8_t id[12];
@@ -29,16 +30,19 @@ typedef struct {
     model_text realm;
     const model_key *secret;
     stun_types_address listening;
+    stun_types_address alternate; /* family 0: none */
     struct {
         model_text name;
         const model_key *md5, *sha256;
     } users[MODEL_TURN_USERS];
     uint64_t clock;
     model_allocation all[MODEL_TURN_ALLOCATIONS];
+    uint64_t ended[MODEL_TURN_ALLOCATIONS]; /* by the last call */
+    size_t ended_count;
 } model_turn;
 
-/* What is done for a client's datagram: `action` without a relay that the server chooses and a
-   response's length, and what else a response says. */
+/* What is done for a client's datagram: `action` without what the server chooses and a response's length,
+   and what else a response says: of IPv4, and of IPv6. */
 typedef struct {
     stun_types_turn_action action;
     bool is_request;          /* of a user; if not, no key is needed */
@@ -46,7 +50,10 @@ typedef struct {
     uint32_t algorithm;       /* of its HMAC */
     bool has_lifetime;
     uint32_t lifetime;
-    model_allocation *opened; /* its relay is for the caller to set */
+    model_allocation *opened[2]; /* their relays are for the caller to set */
+    stun_types_address relayed[2]; /* family 0: none */
+    uint32_t missing[2];
+    stun_types_address alternate; /* family 0: none */
 } model_turn_done;
 
 void model_turn_client(model_turn *turn, uint64_t now, const stun_types_five_tuple *from,
@@ -62,10 +69,11 @@ unsigned model_turn_peer(model_turn *turn, uint64_t now, uint64_t relay,
                          const stun_types_address *peer, size_t length,
                          stun_types_turn_delivery *delivery);
 
-/* How many allocations have ended; and that the end of one is reported, false if there is no such
-   end. */
-size_t model_turn_ended(model_turn *turn, uint64_t now);
-bool model_turn_report(model_turn *turn, uint64_t relay);
+/* What has expired ends; and the relayed address with a number; and all of a user, or of none for
+   MODEL_TURN_USERS. */
+void model_turn_poll(model_turn *turn, uint64_t now);
+void model_turn_end(model_turn *turn, uint64_t now, uint64_t relay);
+void model_turn_end_user(model_turn *turn, uint64_t now, unsigned user);
 
 bool model_is_same_address(const stun_types_address *one, const stun_types_address *other);
 

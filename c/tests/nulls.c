@@ -15,7 +15,7 @@ static const stun_types_id id = {{0}};
 #define NO_VALUE PLAIN(STUN_TYPES_BAD_ARGUMENT)
 #define AN_ADDRESS {{192, 0, 2, 1}, 32853, 4}
 #define NO_ADDRESS {{0}, 0, 0}
-#define NOT_READY {NO_ADDRESS, NO_ADDRESS, NO_ADDRESS, NO_ADDRESS, 0, 0}
+#define NOT_READY {NO_ADDRESS, NO_ADDRESS, NO_ADDRESS, NO_ADDRESS}
 static const stun_types_address address = AN_ADDRESS;
 static const stun_types_covered no_covered = {STUN_TYPES_INTEGRITY_SHA1, {0}, 0};
 static const stun_types_hmac no_hmac = {STUN_TYPES_INTEGRITY_SHA1, {0}};
@@ -256,6 +256,7 @@ static void test_turn_servers(void) {
     *server = none;
     heap_allow(true);
     ANSWERS(stun_types_turn_new(server, &settings, key), OK_ANSWER);
+    ANSWERS(stun_types_turn_set_rules(server, &settings), OK_ANSWER);
     ANSWERS(stun_types_turn_client(server, 0, &datagram, no_key(), no_key(), NULL, 0, action),
             OK_ANSWER);
     CHECK(action->kind == STUN_TYPES_TURN_NOTHING);
@@ -266,11 +267,43 @@ static void test_turn_servers(void) {
             LENGTHS(STUN_TYPES_TOO_SMALL, 48, 0));
     ANSWERS(stun_types_turn_peer(server, 0, &address, 0, 0, &id, NULL, 0, delivery),
             LENGTHS(STUN_TYPES_TOO_SMALL, STUN_TYPES_TURN_HEAD, 0));
-    CHECK(stun_types_turn_poll(server, 0, NULL, 0) == 0);
+    CHECK(stun_types_turn_ended(server, NULL, 0, 0) == 0);
     heap_allow(false);
     stun_types_turn_free(server);
     stun_types_turns_free(NULL, 0);
     stun_types_key_free(key);
+}
+
+static void test_turn_clients(void) {
+    static const stun_types_allocation none = STUN_TYPES_ALLOCATION_INIT;
+    static const stun_types_allocation_settings nothing;
+    stun_types_allocation_settings *settings = NEW(stun_types_allocation_settings);
+    stun_types_allocation *client = NEW(stun_types_allocation);
+    stun_types_allocation_data *data = NEW(stun_types_allocation_data);
+    stun_types_allocation_head *around = NEW(stun_types_allocation_head);
+    size_t *length = NEW(size_t);
+    uint64_t *wake = NEW(uint64_t);
+    const slice password = text("secret");
+    *client = none;
+    heap_allow(true);
+    ANSWERS(stun_types_allocation_new(client, &nothing), PLAIN(STUN_TYPES_BAD_ARGUMENT));
+    memset(settings, 0, sizeof *settings);
+    settings->server = address;
+    settings->transport = STUN_TYPES_UDP;
+    settings->password = password.bytes;
+    settings->password_length = password.length;
+    ANSWERS(stun_types_allocation_new(client, settings), OK_ANSWER);
+    ANSWERS(stun_types_allocation_want(client, 0, STUN_TYPES_ALLOCATION_ALLOCATE, &address), OK_ANSWER);
+    ANSWERS(stun_types_allocation_datagram(client, 0, &address, NULL, 0, data), OK_ANSWER);
+    CHECK(is_zero(data, sizeof *data));
+    ANSWERS(stun_types_allocation_poll(client, 0, &id, NULL, 0, length, wake),
+            LENGTHS(STUN_TYPES_TOO_SMALL, 28, 0));
+    CHECK(*length == 0 && *wake == 500000000);
+    ANSWERS(stun_types_allocation_send(client, 0, 0, &address, &id, NULL, 0, around), OK_ANSWER);
+    CHECK(is_zero(around, sizeof *around));
+    heap_allow(false);
+    stun_types_allocation_free(client);
+    stun_types_allocations_free(NULL, 0);
 }
 
 void test_nulls(void) {
@@ -290,4 +323,6 @@ void test_nulls(void) {
     test_clients_and_streams();
     row("slices that are NULL", "of TURN servers");
     test_turn_servers();
+    row("slices that are NULL", "of TURN clients");
+    test_turn_clients();
 }

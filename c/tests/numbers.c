@@ -24,15 +24,15 @@ void test_numbers(void) {
         CHECK(stun_types_message_type(types[i].message_class, types[i].method) == types[i].type);
     }
     row("stun_types_status_text", "each code has a text of its own");
-    for (code = 0; code <= STUN_TYPES_HMAC_TOO_SHORT; code++) {
+    for (code = 0; code <= STUN_TYPES_OTHER_FAMILY; code++) {
         uint32_t other;
         CHECK(strcmp(stun_types_status_text(code), "unknown code") != 0);
         for (other = 0; other < code; other++)
             CHECK(strcmp(stun_types_status_text(code), stun_types_status_text(other)) != 0);
     }
-    CHECK(strcmp(stun_types_status_text(STUN_TYPES_HMAC_TOO_SHORT + 1), "unknown code") == 0);
+    CHECK(strcmp(stun_types_status_text(STUN_TYPES_OTHER_FAMILY + 1), "unknown code") == 0);
     CHECK(strcmp(stun_types_status_text(UINT32_MAX), "unknown code") == 0);
-    for (code = 0; code <= STUN_TYPES_HMAC_TOO_SHORT + 1; code++) {
+    for (code = 0; code <= STUN_TYPES_OTHER_FAMILY + 1; code++) {
         const char *wanted = stun_types_status_text(code);
         size_t length = strlen(wanted) + 1, size;
         char *text;

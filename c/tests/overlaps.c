@@ -13,9 +13,10 @@ enum { ARGUMENTS = 9, APART = 512 };
 
 /* An argument of a call: what it is for the call, how many bytes it has, at which multiples it is
    aligned, and what it begins with, in hexadecimal; zeros follow. Of a call that is refused, verdicts are
-   zeros, and nothing else has changed. SERVER is a TURN server, which is made for all calls. */
+   zeros, and nothing else has changed. SERVER is a TURN server, and CLIENT a TURN client, which are made for
+   all calls. */
 typedef struct {
-    enum { READ = 1, WRITTEN, VERDICT, KEY, SERVER } is;
+    enum { READ = 1, WRITTEN, VERDICT, KEY, SERVER, CLIENT } is;
     size_t size, align;
     const char *begins;
 } argument;
@@ -150,12 +151,26 @@ CALL(write_channel_data) {
 CALL(turn_new) {
     REPORT(stun_types_turn_new(at[0], at[1], at[2]));
 }
+CALL(turn_set_rules) { REPORT(stun_types_turn_set_rules(at[0], at[1])); }
+CALL(turn_set_limits) { REPORT(stun_types_turn_set_limits(at[0], at[1])); }
+CALL(turn_set_alternate) { REPORT(stun_types_turn_set_alternate(at[0], at[1])); }
 CALL(turn_client) {
     REPORT(stun_types_turn_client(at[0], 0, at[1], at[3], at[4], at[5], 60, at[6]));
 }
 CALL(turn_peer) {
     REPORT(stun_types_turn_peer(at[0], 0, at[1], 1, 3, at[2], at[3], STUN_TYPES_TURN_HEAD, at[4]));
 }
+
+CALL(allocation_new) { REPORT(stun_types_allocation_new(at[0], at[1])); }
+CALL(allocation_want) {
+    REPORT(stun_types_allocation_want(at[0], 0, STUN_TYPES_ALLOCATION_BIND, at[1]));
+}
+CALL(allocation_datagram) { REPORT(stun_types_allocation_datagram(at[0], 0, at[1], at[2], 28, at[3])); }
+CALL(allocation_poll) { REPORT(stun_types_allocation_poll(at[0], 0, at[1], at[2], 40, at[3], at[4])); }
+CALL(allocation_send) {
+    REPORT(stun_types_allocation_send(at[0], 0, 3, at[1], at[2], at[3], STUN_TYPES_ALLOCATION_HEAD, at[4]));
+}
+CALL(attempt_next) { REPORT_BOOL(stun_types_allocation_attempt_next(at[0], at[1])); }
 
 /* Puts the slices into a struct that is passed. */
 static void asks(void *const *at) {
@@ -182,16 +197,37 @@ static void sets(void *const *at) {
     it->listening_count = 2;
 }
 
+static void rules(void *const *at) {
+    stun_types_turn_settings *it = at[1];
+    it->denied = at[2];
+    it->denied_count = 2;
+    it->allowed = at[3];
+    it->allowed_count = 1;
+    it->listening = at[4];
+    it->listening_count = 2;
+}
+
 static void comes(void *const *at) {
     stun_types_turn_datagram *it = at[1];
     it->bytes = at[2];
     it->length = 20;
 }
 
+static void names(void *const *at) {
+    stun_types_allocation_settings *it = at[1];
+    it->user = at[2];
+    it->user_length = 4;
+    it->password = at[3];
+    it->password_length = 6;
+    it->software = at[4];
+    it->software_length = 2;
+}
+
 static const struct {
     uint64_t (*call)(void *const *at);
     void (*put)(void *const *at);
-} structs[] = {{refuse_long_term, asks}, {turn_new, sets}, {turn_client, comes}};
+} structs[] = {{refuse_long_term, asks}, {turn_new, sets}, {turn_set_rules, rules}, {turn_client, comes},
+               {allocation_new, names}};
 
 /* ---- the calls, and what they are given: answers that aren't REFUSED, if no arguments overlap */
 
@@ -214,6 +250,7 @@ static const struct {
 #define POLICY GIVEN(sizeof(stun_types_policy), "")
 #define HMAC {READ, sizeof(stun_types_hmac), 4, "08000000"}
 #define TURN_SERVER {SERVER, sizeof(stun_types_turn), 8, ""}
+#define TURN_CLIENT {CLIENT, sizeof(stun_types_allocation), 8, ""}
 
 static const guarded_call calls[] = {
     {"stun_types_framed_length", framed_length, {BYTES(20, HEADER), COUNTED}},
@@ -324,9 +361,17 @@ static const guarded_call calls[] = {
     {"stun_types_turn_new", turn_new,
      {LEFT(sizeof(stun_types_turn), ""), GIVEN(sizeof(stun_types_turn_settings), ""),
       GIVEN(sizeof(stun_types_key), ""), BYTES(5, ""), BYTES(4, ""),
-      GIVEN(2 * sizeof(stun_types_prefix), "00*18 0400 0000 00*18 0600"),
+      GIVEN(2 * sizeof(stun_types_prefix), "00*18 0400 00*6 00*18 0600"),
       GIVEN(sizeof(stun_types_prefix), "00*18 0400"),
       GIVEN(2 * sizeof(stun_types_address), "00*18 0400 00*18 0600")}},
+    {"stun_types_turn_set_rules", turn_set_rules,
+     {TURN_SERVER, GIVEN(sizeof(stun_types_turn_settings), ""),
+      GIVEN(2 * sizeof(stun_types_prefix), "00*18 0400 00*6 00*18 0600"),
+      GIVEN(sizeof(stun_types_prefix), "00*18 0400"),
+      GIVEN(2 * sizeof(stun_types_address), "00*18 0400 00*18 0600")}},
+    {"stun_types_turn_set_limits", turn_set_limits,
+     {TURN_SERVER, GIVEN(sizeof(stun_types_turn_limits), "")}},
+    {"stun_types_turn_set_alternate", turn_set_alternate, {TURN_SERVER, ADDRESS}},
     {"stun_types_turn_client", turn_client,
      {TURN_SERVER, GIVEN(sizeof(stun_types_turn_datagram), "00*34 0400 00*18 0400"),
       BYTES(20, HEADER), GIVEN(sizeof(stun_types_key), ""), GIVEN(sizeof(stun_types_key), ""),
@@ -334,6 +379,22 @@ static const guarded_call calls[] = {
     {"stun_types_turn_peer", turn_peer,
      {TURN_SERVER, ADDRESS, BYTES(sizeof(stun_types_id), ""), ROOM(STUN_TYPES_TURN_HEAD, ""),
       ZEROED(sizeof(stun_types_turn_delivery))}},
+    /* (the user's name isn't UTF-8) */
+    {"stun_types_allocation_new", allocation_new,
+     {LEFT(sizeof(stun_types_allocation), ""),
+      GIVEN(sizeof(stun_types_allocation_settings), "00*18 0400 01000000"), BYTES(4, "FF*4"), BYTES(6, ""),
+      BYTES(2, "")}},
+    {"stun_types_allocation_want", allocation_want, {TURN_CLIENT, ADDRESS}},
+    {"stun_types_allocation_datagram", allocation_datagram,
+     {TURN_CLIENT, ADDRESS, BYTES(28, USER), ZEROED(sizeof(stun_types_allocation_data))}},
+    {"stun_types_allocation_poll", allocation_poll,
+     {TURN_CLIENT, BYTES(sizeof(stun_types_id), ""), ROOM(40, ""), LEFT(8, ""), LEFT(8, "")}},
+    {"stun_types_allocation_send", allocation_send,
+     {TURN_CLIENT, ADDRESS, BYTES(sizeof(stun_types_id), ""), ROOM(STUN_TYPES_ALLOCATION_HEAD, ""),
+      ZEROED(sizeof(stun_types_allocation_head))}},
+    {"stun_types_allocation_attempt_next", attempt_next,
+     {LEFT(sizeof(stun_types_allocation_attempt), "00*18 0400"),
+      GIVEN(sizeof(stun_types_allocation_change), "00*16 08000000 03000000 00*82 B501")}},
 };
 
 /* ---- the arguments, in one block of memory */
@@ -424,33 +485,76 @@ static void make_server(stun_types_turn *server) {
     stun_types_key_free(secret);
 }
 
-/* A poll counts what it writes, and so it is 0 if it is refused: the allocation that has ended is
-   reported by the next one. */
-static void test_poll(void) {
+/* Makes the client that calls are given. */
+static void make_client(stun_types_allocation *client) {
+    static const stun_types_allocation none = STUN_TYPES_ALLOCATION_INIT;
+    stun_types_allocation_settings settings;
+    memset(&settings, 0, sizeof settings);
+    settings.server.family = 4;
+    settings.transport = STUN_TYPES_UDP;
+    settings.password = "secret";
+    settings.password_length = 6;
+    *client = none;
+    heap_allow(true);
+    ANSWERS(stun_types_allocation_new(client, &settings), OK_ANSWER);
+    heap_allow(false);
+}
+
+/* A change of which the first or the last bytes are the client's is zeros, and is reported by the next call. */
+static void test_change(const stun_types_allocation *client) {
+    static uint64_t at[40];
+    static const stun_types_address nobody;
+    const size_t size = sizeof(stun_types_allocation_change) / 8;
+    stun_types_allocation_change *change = (void *)(at + 10);
+    stun_types_allocation *handle;
+    int way;
+    row("overlaps", "stun_types_allocation_changes");
+    for (way = 0; way < 2; way++) {
+        handle = (void *)(at + 10 + (way == 0 ? -1 : (int)size - 1));
+        memset(at, FILL, sizeof at);
+        *handle = *client;
+        CHECK(!stun_types_allocation_changes(handle, change) && is_zero(change, sizeof *change));
+    }
+    handle = (void *)at;
+    *handle = *client;
+    ANSWERS(stun_types_allocation_want(handle, 0, STUN_TYPES_ALLOCATION_CLOSE, &nobody), OK_ANSWER);
+    CHECK(stun_types_allocation_changes(handle, change) && change->kind == STUN_TYPES_ALLOCATION_OVER);
+    CHECK(!stun_types_allocation_changes(handle, change) && is_zero(change, sizeof *change));
+}
+
+/* What counts what it writes is 0 if it is refused: the number of the socket is read by the next call. And a
+   user whose hash is in the handle is nobody. */
+static void test_ends(void) {
     static uint64_t numbers[6];
     stun_types_turn *const at = (void *)(numbers + 2);
     stun_types_turn before;
     size_t first;
-    site_begin("stun_types_turn_poll");
+    site_begin("stun_types_turn_ended");
     CHECK(site_allocate(0, 1) == 0);
+    CHECK(stun_types_turn_poll(site.server, 600 * SECOND) == 1);
     before = *site.server;
     for (first = 1; first <= 3; first++) {
         memset(numbers, FILL, sizeof numbers);
         *at = before;
-        CHECK(stun_types_turn_poll(at, 600 * SECOND, numbers + first, 2) == 0);
+        CHECK(stun_types_turn_ended(at, numbers + first, 2, 0) == 0);
         CHECK(memcmp(at, &before, sizeof before) == 0 && is_untouched(numbers, 16)
               && is_untouched(numbers + 4, 16));
     }
-    CHECK(stun_types_turn_poll(at, 600 * SECOND, numbers, 2) == 1);
-    CHECK(memcmp(at, &before, sizeof before) == 0 && numbers[0] == site.action->relay);
+    row("overlaps", "stun_types_turn_end_user");
+    CHECK(stun_types_turn_end_user(at, 600 * SECOND, (const void *)(numbers + 2)) == 0);
+    CHECK(memcmp(at, &before, sizeof before) == 0);
+    CHECK(stun_types_turn_ended(at, numbers, 2, 0) == 1);
+    CHECK(memcmp(at, &before, sizeof before) == 0 && numbers[0] == site.action->ipv4.relay);
     site_end();
 }
 
 void test_overlaps(void) {
     stun_types_turn server;
+    stun_types_allocation client;
     size_t i, one, other;
-    row("arguments that overlap", "a TURN server is made");
+    row("arguments that overlap", "a TURN server and a TURN client are made");
     make_server(&server);
+    make_client(&client);
     for (i = 0; i < COUNT(calls); i++) {
         const guarded_call *it = &calls[i];
         const size_t count = count_of(it);
@@ -458,8 +562,9 @@ void test_overlaps(void) {
         uint64_t apart;
         row("arguments that overlap", it->name);
         for (one = 0; one < count; one++)
-            begins[one] = it->arguments[one].is == SERVER ? given(&server, sizeof server)
-                                                          : hex(it->arguments[one].begins);
+            begins[one] = it->arguments[one].is == SERVER   ? given(&server, sizeof server)
+                          : it->arguments[one].is == CLIENT ? given(&client, sizeof client)
+                                                            : hex(it->arguments[one].begins);
         spread(at);
         apart = allowed(it, at);
         CHECK(apart != REFUSED);
@@ -469,5 +574,7 @@ void test_overlaps(void) {
                     check_two(it, one, other, apart);
     }
     stun_types_turn_free(&server);
-    test_poll();
+    test_change(&client);
+    stun_types_allocation_free(&client);
+    test_ends();
 }

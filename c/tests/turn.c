@@ -12,6 +12,7 @@
 /* ---- a struct that holds no server */
 
 static void check_no_server(const char *name, uint8_t byte) {
+    turn_making it;
     uint64_t *ended;
     uint8_t *head;
     stun_types_turn_delivery *delivery;
@@ -32,9 +33,17 @@ static void check_no_server(const char *name, uint8_t byte) {
     ANSWERS(turn_from_peer(site.server, 0, 0, &site_peer, 3, &id, room(0), 0, delivery),
             PLAIN(STUN_TYPES_BAD_ARGUMENT));
     ended = (uint64_t *)(void *)room(8);
-    CHECK(stun_types_turn_poll(site.server, 0, ended, 1) == 0);
-    CHECK(is_untouched(ended, 8));
+    CHECK(stun_types_turn_poll(site.server, 0) == 0);
+    CHECK(stun_types_turn_end(site.server, 0, 0) == 0);
+    CHECK(site_end_user(0, "alice") == 0);
+    CHECK(stun_types_turn_ended(site.server, ended, 1, 0) == 0 && is_untouched(ended, 8));
+    CHECK(stun_types_turn_next_due(site.server) == UINT64_MAX);
+    CHECK(stun_types_turn_count(site.server) == 0);
+    ANSWERS(stun_types_turn_set_alternate(site.server, &site_peer), PLAIN(STUN_TYPES_BAD_ARGUMENT));
+    ANSWERS(stun_types_turn_set_limits(site.server, &site_settings.limits), PLAIN(STUN_TYPES_BAD_ARGUMENT));
     heap_allow(true);
+    it = site_making();
+    ANSWERS(site_set_rules(site.server, &it), PLAIN(STUN_TYPES_BAD_ARGUMENT));
     site_end();
 }
 
@@ -75,6 +84,22 @@ static void denied_33(turn_making *it) { denies(it, 4, 33); }
 static void denied_129(turn_making *it) { denies(it, 6, 129); }
 static void denied_264(turn_making *it) { denies(it, 6, 256 + 8); }
 static void denied_family(turn_making *it) { denies(it, 5, 8); }
+/* (a port of 0 is one, if it isn't the last) */
+static void denied_ports(turn_making *it) {
+    denies(it, 4, 8);
+    it->denied[0].first_port = 2;
+    it->denied[0].last_port = 1;
+}
+static void allowed_first_port(turn_making *it) {
+    allows(it, 4, 8);
+    it->allowed[1].first_port = 1;
+}
+static void whole_ports(turn_making *it) {
+    denies(it, 4, 8);
+    allows(it, 4, 8);
+    it->denied[0].last_port = UINT16_MAX;
+    it->allowed[1].first_port = it->allowed[1].last_port = UINT16_MAX;
+}
 static void allowed_33(turn_making *it) { allows(it, 4, 33); }
 static void allowed_129(turn_making *it) { allows(it, 6, 129); }
 static void allowed_family(turn_making *it) { allows(it, 0, 0); }
@@ -136,8 +161,14 @@ static void long_texts(turn_making *it) {
 }
 static void no_listening(turn_making *it) { it->listening_count = 0; }
 static void no_features(turn_making *it) { it->settings.features = 0; }
+static void many_relays(turn_making *it) { it->settings.limits.relays = 1 << 24; }
+static void most_relays(turn_making *it) { it->settings.limits.relays = UINT32_MAX; }
+static void many_and_no_secret(turn_making *it) {
+    many_relays(it);
+    no_secret(it);
+}
 static void nothing(turn_making *it) {
-    it->settings.allocations = it->settings.of_user = it->settings.greatest_lifetime = 0;
+    memset(&it->settings.limits, 0, sizeof it->settings.limits);
     it->settings.window = 0;
 }
 static void bounded(turn_making *it) { it->settings.policy.min_hmac_length = 16; }
@@ -154,10 +185,16 @@ static const struct {
     {"another sum of features", four_features, STUN_TYPES_BAD_ARGUMENT, 0, 0},
     {"a spare word", settings_reserved, STUN_TYPES_BAD_ARGUMENT, 0, 0},
     {"the high bit of a spare word", settings_reserved_high, STUN_TYPES_BAD_ARGUMENT, 0, 0},
+    {"2^24 relayed addresses", many_relays, STUN_TYPES_BAD_ARGUMENT, 0, 0},
+    {"the greatest number of relayed addresses", most_relays, STUN_TYPES_BAD_ARGUMENT, 0, 0},
+    {"2^24 relayed addresses, and no secret", many_and_no_secret, STUN_TYPES_BAD_ARGUMENT, 0, 0},
     {"a prefix of 33 bits", denied_33, STUN_TYPES_BAD_ARGUMENT, 0, 0},
     {"a prefix of 129 bits", denied_129, STUN_TYPES_BAD_ARGUMENT, 0, 0},
     {"a prefix of 264 bits", denied_264, STUN_TYPES_BAD_ARGUMENT, 0, 0},
     {"a prefix of another family", denied_family, STUN_TYPES_BAD_ARGUMENT, 0, 0},
+    {"ports from 2 to 1", denied_ports, STUN_TYPES_BAD_ARGUMENT, 0, 0},
+    {"allowed ports from 1 to 0", allowed_first_port, STUN_TYPES_BAD_ARGUMENT, 0, 0},
+    {"all ports, and the last one", whole_ports, STUN_TYPES_OK, 0, 0},
     {"an allowed prefix of 33 bits", allowed_33, STUN_TYPES_BAD_ARGUMENT, 0, 0},
     {"an allowed prefix of 129 bits", allowed_129, STUN_TYPES_BAD_ARGUMENT, 0, 0},
     {"an allowed prefix of no family", allowed_family, STUN_TYPES_BAD_ARGUMENT, 0, 0},
@@ -185,7 +222,7 @@ static const struct {
     {"texts of 763 bytes", long_texts, STUN_TYPES_OK, 0, 0},
     {"no listening address", no_listening, STUN_TYPES_OK, 0, 0},
     {"no features", no_features, STUN_TYPES_OK, 0, 0},
-    {"no allocation, no lifetime and no window", nothing, STUN_TYPES_OK, 0, 0},
+    {"limits of zeros, and no window", nothing, STUN_TYPES_OK, 0, 0},
     {"an HMAC of 16 bytes", bounded, STUN_TYPES_OK, 0, 0},
 };
 
@@ -277,7 +314,7 @@ static void test_ends_of_many(void) {
 static void test_copied(void) {
     stun_types_turn_settings settings = site_settings;
     stun_types_key secret = STUN_TYPES_KEY_INIT;
-    stun_types_prefix denied = {{{198, 51, 100, 8}, 0, 4}, 32};
+    stun_types_prefix denied = {{{198, 51, 100, 8}, 0, 4}, 32, 0, 0};
     stun_types_address second = site_own;
     slice value = {NULL, 0}, all;
     uint8_t *realm, *software;
@@ -348,12 +385,22 @@ static void test_lifetimes(void) {
         turn_making it;
         site_begin_alone(lifetimes[i].name);
         it = site_making();
-        it.settings.greatest_lifetime = lifetimes[i].greatest;
+        it.settings.limits.greatest_lifetime = lifetimes[i].greatest;
         site_begin_by(&it);
         CHECK(site_allocate(0, 1) == 0 && site_lifetime() == 600);
         CHECK(site_refresh(0, lifetimes[i].asked) == 0 && site_lifetime() == lifetimes[i].granted);
         site_end();
     }
+}
+
+/* The limits that are recommended, as a macro and as a call. */
+static void test_limits(void) {
+    static const stun_types_turn_limits recommended = STUN_TYPES_TURN_LIMITS;
+    const stun_types_turn_limits other = stun_types_turn_limits_default();
+    row("a TURN server", "the limits that are recommended");
+    CHECK(memcmp(&other, &recommended, sizeof other) == 0);
+    CHECK(other.relays == 4096 && other.relays_per_user == 64 && other.greatest_lifetime == 3600);
+    CHECK(other.ipv4 == 1 && other.ipv6 == 1 && other.channel_permits == 0 && other.old_channels == 0);
 }
 
 /* ---- which peers are allowed */
@@ -365,42 +412,42 @@ static const struct {
     uint32_t code;
 } prefixes[] = {
     {"a denied prefix",
-     {{{198, 51, 100}, 0, 4}, 24},
-     {{{0}, 0, 4}, 0},
+     {{{198, 51, 100}, 0, 4}, 24, 0, 0},
+     {{{0}, 0, 4}, 0, 0, 0},
      {{198, 51, 100, 7}, 1, 4},
      403},
     {"the last address of a denied prefix",
-     {{{198, 51, 100, 4}, 0, 4}, 30},
-     {{{0}, 0, 4}, 0},
+     {{{198, 51, 100, 4}, 0, 4}, 30, 0, 0},
+     {{{0}, 0, 4}, 0, 0, 0},
      {{198, 51, 100, 7}, 1, 4},
      403},
     {"the address after it",
-     {{{198, 51, 100, 4}, 9, 4}, 30},
-     {{{0}, 0, 4}, 0},
+     {{{198, 51, 100, 4}, 9, 4}, 30, 0, 0},
+     {{{0}, 0, 4}, 0, 0, 0},
      {{198, 51, 100, 8}, 1, 4},
      0},
     {"a longer one is allowed",
-     {{{198, 51, 100}, 0, 4}, 24},
-     {{{198, 51, 100, 7}, 0, 4}, 32},
+     {{{198, 51, 100}, 0, 4}, 24, 0, 0},
+     {{{198, 51, 100, 7}, 0, 4}, 32, 0, 0},
      {{198, 51, 100, 7}, 1, 4},
      0},
     {"a longer one is denied",
-     {{{198, 51, 100, 7}, 0, 4}, 32},
-     {{{198, 51, 100}, 0, 4}, 24},
+     {{{198, 51, 100, 7}, 0, 4}, 32, 0, 0},
+     {{{198, 51, 100}, 0, 4}, 24, 0, 0},
      {{198, 51, 100, 7}, 1, 4},
      403},
     {"both are the same",
-     {{{198, 51, 100}, 0, 4}, 24},
-     {{{198, 51, 100}, 0, 4}, 24},
+     {{{198, 51, 100}, 0, 4}, 24, 0, 0},
+     {{{198, 51, 100}, 0, 4}, 24, 0, 0},
      {{198, 51, 100, 7}, 1, 4},
      403},
-    {"a default is allowed", {{{0}, 0, 4}, 0}, {{{10}, 0, 4}, 8}, {{10, 1, 2, 3}, 1, 4}, 0},
+    {"a default is allowed", {{{0}, 0, 4}, 0, 0, 0}, {{{10}, 0, 4}, 8, 0, 0}, {{10, 1, 2, 3}, 1, 4}, 0},
     {"a shorter one than the default",
-     {{{198}, 0, 4}, 8},
-     {{{10}, 0, 4}, 7},
+     {{{198}, 0, 4}, 8, 0, 0},
+     {{{10}, 0, 4}, 7, 0, 0},
      {{10, 1, 2, 3}, 1, 4},
      403},
-    {"another family's prefix", {{{0}, 0, 6}, 0}, {{{0}, 0, 6}, 0}, {{198, 51, 100, 7}, 1, 4}, 0},
+    {"another family's prefix", {{{0}, 0, 6}, 0, 0, 0}, {{{0}, 0, 6}, 0, 0, 0}, {{198, 51, 100, 7}, 1, 4}, 0},
 };
 
 static void test_prefixes(void) {
@@ -418,6 +465,123 @@ static void test_prefixes(void) {
         CHECK(site_sends_to(0, &prefixes[i].peer) == (prefixes[i].code == 0));
         site_end();
     }
+}
+
+/* ---- ports */
+
+enum { IS_PERMITTED = 1, IS_SENT = 2, IS_BOUND = 4, ALL_OF_THEM = 7 };
+
+static const struct {
+    const char *name;
+    stun_types_prefix denied, allowed;
+    stun_types_address peer;
+    int done;
+} ports[] = {
+    {"before denied ports", {{{198, 51, 100}, 0, 4}, 24, 10, 20}, {{{9}, 0, 4}, 8, 0, 0}, {{198, 51, 100, 7}, 9, 4}, ALL_OF_THEM},
+    {"the first denied port", {{{198, 51, 100}, 0, 4}, 24, 10, 20}, {{{9}, 0, 4}, 8, 0, 0}, {{198, 51, 100, 7}, 10, 4}, IS_PERMITTED},
+    {"the last denied port", {{{198, 51, 100}, 0, 4}, 24, 10, 20}, {{{9}, 0, 4}, 8, 0, 0}, {{198, 51, 100, 7}, 20, 4}, IS_PERMITTED},
+    {"after denied ports", {{{198, 51, 100}, 0, 4}, 24, 10, 20}, {{{9}, 0, 4}, 8, 0, 0}, {{198, 51, 100, 7}, 21, 4}, ALL_OF_THEM},
+    {"from port 0", {{{198, 51, 100}, 0, 4}, 24, 0, 20}, {{{9}, 0, 4}, 8, 0, 0}, {{198, 51, 100, 7}, 1, 4}, IS_PERMITTED},
+    {"a longer one is allowed, with ports", {{{198, 51, 100}, 0, 4}, 24, 10, 20}, {{{198, 51, 100, 7}, 0, 4}, 32, 15, 15}, {{198, 51, 100, 7}, 15, 4}, ALL_OF_THEM},
+    {"of an allowed prefix with ports another", {{{9}, 0, 4}, 8, 0, 0}, {{{10}, 0, 4}, 8, 5000, 6000}, {{10, 1, 2, 3}, 4999, 4}, IS_PERMITTED},
+    {"of an allowed prefix with ports one", {{{9}, 0, 4}, 8, 0, 0}, {{{10}, 0, 4}, 8, 5000, 6000}, {{10, 1, 2, 3}, 5000, 4}, ALL_OF_THEM},
+    {"all ports, which are written out", {{{198, 51, 100}, 0, 4}, 24, 0, 65535}, {{{9}, 0, 4}, 8, 0, 0}, {{198, 51, 100, 7}, 9, 4}, 0},
+};
+
+static int done_for(uint64_t now, const stun_types_address *peer) {
+    int done = site_permit(now, peer) == 0 ? IS_PERMITTED : 0;
+    if (site_sends_to(now, peer)) done |= IS_SENT;
+    if (site_bind(now, 0x4000, peer) == 0) done |= IS_BOUND;
+    return done;
+}
+
+static void test_ports(void) {
+    size_t i;
+    for (i = 0; i < COUNT(ports); i++) {
+        turn_making it;
+        site_begin_alone(ports[i].name);
+        it = site_making();
+        it.denied[0] = ports[i].denied;
+        it.allowed[0] = ports[i].allowed;
+        it.denied_count = it.allowed_count = 1;
+        site_begin_by(&it);
+        CHECK(site_allocate(0, 1) == 0);
+        CHECK(done_for(0, &ports[i].peer) == ports[i].done);
+        site_end();
+    }
+}
+
+/* ---- what is changed of a server that runs */
+
+/* The rules of each call are those that were set last; what is refused leaves them. */
+static void test_rules(void) {
+    turn_making it;
+    stun_types_address other = site_peer;
+    other.port++;
+    site_begin("rules are replaced");
+    CHECK(site_allocate(0, 1) == 0 && done_for(0, &site_peer) == ALL_OF_THEM);
+    it = site_making();
+    it.denied[0] = (stun_types_prefix){site_peer, 32, site_peer.port, site_peer.port};
+    it.denied_count = 1;
+    ANSWERS(site_set_rules(site.server, &it), OK_ANSWER);
+    CHECK(!site_sends_to(0, &site_peer) && site_sends_to(0, &other));
+    CHECK(site_bind(0, 0x4000, &site_peer) == 403 && site_permit(0, &site_peer) == 0);
+    it.denied[0].length = 33;
+    ANSWERS(site_set_rules(site.server, &it), PLAIN(STUN_TYPES_BAD_ARGUMENT));
+    CHECK(!site_sends_to(0, &site_peer) && site_sends_to(0, &other));
+    it.denied[0].length = 32;
+    it.denied[0].first_port = it.denied[0].last_port = 0;
+    ANSWERS(site_set_rules(site.server, &it), OK_ANSWER);
+    CHECK(!site_sends_to(0, &other) && site_permit(0, &site_peer) == 403);
+    it = site_making();
+    ANSWERS(site_set_rules(site.server, &it), OK_ANSWER);
+    CHECK(done_for(0, &site_peer) == ALL_OF_THEM && site_refresh(0, 600) == 0);
+    site_end();
+}
+
+/* Without a socket an Allocate request is refused with 508, or with 300 if there is another server. */
+static void test_alternate(void) {
+    stun_types_address other = {{203, 0, 113, 9}, 3478, 4}, ipv6 = {{0x20, 1, 0xd, 0xb8}, 3478, 6}, none = {{0}, 0, 0};
+    stun_types_address five = {{0}, 0, 5}, shown;
+    stun_types_attribute found;
+    site_begin("another server");
+    memset(site.ready, 0, sizeof *site.ready);
+    CHECK(site_allocate(0, 1) == 508);
+    ANSWERS(stun_types_turn_set_alternate(site.server, &other), OK_ANSWER);
+    CHECK(site_allocate(0, 2) == 300);
+    CHECK(stun_types_find(site_response().bytes, site_response().length, 0x8023, &found));
+    ANSWERS(stun_types_read_address(site_response().bytes, site_response().length, &found, &shown), OK_ANSWER);
+    CHECK(memcmp(&shown, &other, sizeof shown) == 0);
+    ANSWERS(stun_types_turn_set_alternate(site.server, &five), PLAIN(STUN_TYPES_BAD_ARGUMENT));
+    CHECK(site_allocate(0, 3) == 300);
+    ANSWERS(stun_types_turn_set_alternate(site.server, &ipv6), OK_ANSWER);
+    CHECK(site_allocate(0, 4) == 508);
+    ANSWERS(stun_types_turn_set_alternate(site.server, &other), OK_ANSWER);
+    ANSWERS(stun_types_turn_set_alternate(site.server, &none), OK_ANSWER);
+    CHECK(site_allocate(0, 5) == 508);
+    site_end();
+}
+
+/* The quota of a user, the families and the lifetime are changed; the room isn't, and what was granted stays. */
+static void test_new_limits(void) {
+    stun_types_turn_limits limits = site_settings.limits;
+    site_begin("limits are replaced");
+    CHECK(site_allocate(0, 1) == 0 && site_refresh(0, 3000) == 0 && site_lifetime() == 3000);
+    limits.relays_per_user = 0;
+    limits.greatest_lifetime = 700;
+    ANSWERS(stun_types_turn_set_limits(site.server, &limits), OK_ANSWER);
+    CHECK(site_refresh(0, 3000) == 0 && site_lifetime() == 700);
+    CHECK(stun_types_turn_count(site.server) == 1 && site_refresh(0, 0) == 0);
+    CHECK(site_allocate(0, 2) == 486);
+    limits.relays_per_user = 1;
+    limits.ipv4 = 0;
+    ANSWERS(stun_types_turn_set_limits(site.server, &limits), OK_ANSWER);
+    CHECK(site_allocate(0, 3) == 440);
+    limits.ipv4 = 1;
+    limits.relays = 0;
+    ANSWERS(stun_types_turn_set_limits(site.server, &limits), OK_ANSWER);
+    CHECK(site_allocate(0, 4) == 0);
+    site_end();
 }
 
 /* Each listening address is denied, by its port. */
@@ -447,6 +611,11 @@ void test_turn(void) {
     test_copied();
     test_overwritten();
     test_lifetimes();
+    test_limits();
     test_prefixes();
+    test_ports();
+    test_rules();
+    test_alternate();
+    test_new_limits();
     test_listening();
 }

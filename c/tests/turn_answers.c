@@ -1,4 +1,4 @@
-/* A TURN server in C: what the rows of vectors/ can't say of datagrams, polls, rooms and memory. */
+/* A TURN server in C: what the rows of vectors/ can't say of datagrams, ends, rooms and memory. */
 #include <string.h>
 
 #include "check.h"
@@ -59,7 +59,7 @@ static void test_arguments(void) {
         *site.from = before;
         *site.ready = sockets;
         site_take(0, site_datagram());
-        CHECK(site.action->kind == STUN_TYPES_TURN_RESPONSE && site.action->took == 1);
+        CHECK(site.action->kind == STUN_TYPES_TURN_RESPONSE && site.action->ipv4.took == 1);
         site_end();
     }
 }
@@ -77,11 +77,11 @@ static void test_peer_arguments(void) {
         address.family = families[i];
         head = room(STUN_TYPES_TURN_HEAD);
         delivery = NEW(stun_types_turn_delivery);
-        ANSWERS(turn_from_peer(site.server, 0, site.action->relay, &address, 3, &id, head,
+        ANSWERS(turn_from_peer(site.server, 0, site.action->ipv4.relay, &address, 3, &id, head,
                                STUN_TYPES_TURN_HEAD, delivery),
                 PLAIN(STUN_TYPES_BAD_ARGUMENT));
         CHECK(is_untouched(head, STUN_TYPES_TURN_HEAD) && is_zero(delivery, sizeof *delivery));
-        ANSWERS(turn_from_peer(site.server, 0, site.action->relay, &address, 3, &id, room(0), 0,
+        ANSWERS(turn_from_peer(site.server, 0, site.action->ipv4.relay, &address, 3, &id, room(0), 0,
                                delivery),
                 PLAIN(STUN_TYPES_BAD_ARGUMENT));
         site_end();
@@ -93,7 +93,7 @@ static void test_peer_arguments(void) {
 /* A spare word that isn't 0 is refused, and nothing is done. Any other number than 0 says that the keys
    were looked up: here there are none. */
 static void test_words(void) {
-    static const uint64_t words[] = {1, (uint64_t)1 << 63};
+    static const uint32_t words[] = {1, (uint32_t)1 << 31};
     stun_types_turn_datagram datagram;
     turn_nonce nonce;
     size_t i;
@@ -145,12 +145,12 @@ static void test_needs_key(void) {
                 OK_ANSWER);
         CHECK(site.action->kind == STUN_TYPES_TURN_NEEDS_KEY
               && is_untouched(site.place, SITE_ROOM));
-        CHECK(site.action->took == 0 && site.action->code == 0 && site.action->length == 0
-              && site.action->relay == 0);
+        CHECK(site.action->ipv4.took == 0 && site.action->ipv6.took == 0 && site.action->ended == 0
+              && site.action->code == 0 && site.action->length == 0 && site.action->relay == 0);
     }
     site_take(0, bytes);
     CHECK(site.action->kind == STUN_TYPES_TURN_RESPONSE && site.action->code == 0
-          && site.action->took == 1);
+          && site.action->ipv4.took == 1);
     CHECK(site_refresh(600 * SECOND, 600) == 437);
     call.server = site.server;
     call.from = site.from;
@@ -160,7 +160,7 @@ static void test_needs_key(void) {
     call.action = site.action;
     ANSWERS(turn_take(&call, 0, bytes, NULL), OK_ANSWER);
     CHECK(site.action->kind == STUN_TYPES_TURN_RESPONSE && site.action->code == 401
-          && site.action->took == 0);
+          && site.action->ipv4.took == 0);
     site_end();
 }
 
@@ -171,7 +171,7 @@ static void test_one_key(void) {
     both = site.alice;
     site.alice.sha256 = stun_types_key_none();
     site_write_allocate(1);
-    CHECK(site_ask_by(0, STUN_TYPES_PASSWORD_MD5) == 0 && site.action->took == 1);
+    CHECK(site_ask_by(0, STUN_TYPES_PASSWORD_MD5) == 0 && site.action->ipv4.took == 1);
     site.alice.sha256 = both.sha256;
     site.alice.md5 = stun_types_key_none();
     turn_begin(&site.message, STUN_TYPES_CLASS_REQUEST, STUN_TYPES_METHOD_REFRESH, 100);
@@ -209,13 +209,13 @@ static void test_other_key(void) {
     ANSWERS(site_take_in(site.server, 0, asked, SITE_ROOM), PLAIN(STUN_TYPES_INVALID_DATA));
     CHECK(site.action->kind == STUN_TYPES_TURN_NOTHING && site.action->length == 0
           && site.action->code == 0);
-    CHECK(site.action->took == 1
-          && turn_is_same_address(&site.action->peer, &site.ready->any_ipv4));
+    CHECK(site.action->ipv4.took == 1
+          && turn_is_same_address(&site.action->ipv4.relayed, &site.ready->any_ipv4));
     stun_types_key_free(&site.alice.md5);
     site.alice = both;
     site_take(0, asked);
     CHECK(site.action->kind == STUN_TYPES_TURN_RESPONSE && site.action->code == 0
-          && site.action->took == 0);
+          && site.action->ipv4.took == 0);
     site_end();
 }
 
@@ -227,19 +227,19 @@ static void test_again(void) {
     uint64_t relay;
     slice bytes;
     site_begin("the same request twice");
-    CHECK(site_allocate(0, 1) == 0 && site.action->took == 1);
-    CHECK(turn_is_same_address(&site.action->peer, &site.ready->any_ipv4));
-    relay = site.action->relay;
+    CHECK(site_allocate(0, 1) == 0 && site.action->ipv4.took == 1);
+    CHECK(turn_is_same_address(&site.action->ipv4.relayed, &site.ready->any_ipv4));
+    relay = site.action->ipv4.relay;
     length = site.action->length;
     memcpy(first, site_response().bytes, length);
     bytes = site_datagram();
     site.ready->any_ipv4.port++;
     site_take(0, bytes);
-    CHECK(site.action->took == 0 && site.action->code == 0 && site.action->length == length);
+    CHECK(site.action->ipv4.took == 0 && site.action->code == 0 && site.action->length == length);
     CHECK(memcmp(site_response().bytes, first, length) == 0);
     site.from->client.port++;
-    CHECK(site_allocate(0, 1) == 0 && site.action->took == 1 && site.action->relay != relay);
-    CHECK(turn_is_same_address(&site.action->peer, &site.ready->any_ipv4));
+    CHECK(site_allocate(0, 1) == 0 && site.action->ipv4.took == 1 && site.action->ipv4.relay != relay);
+    CHECK(turn_is_same_address(&site.action->ipv4.relayed, &site.ready->any_ipv4));
     site_end();
 }
 
@@ -248,26 +248,72 @@ static void test_even(void) {
     site_begin("a socket with an even port");
     site_write_allocate(1);
     turn_add(&site.message, STUN_TYPES_ATTRIBUTE_EVEN_PORT, "", 1);
-    CHECK(site_ask(0) == 0 && site.action->took == 1);
+    CHECK(site_ask(0) == 0 && site.action->ipv4.took == 1);
     address = site_relayed();
-    CHECK(turn_is_same_address(&site.action->peer, &site.ready->even_ipv4));
+    CHECK(turn_is_same_address(&site.action->ipv4.relayed, &site.ready->even_ipv4));
     CHECK(turn_is_same_address(&address, &site.ready->even_ipv4));
     site.from->client.port++;
     site.ready->even_ipv4.family = 0;
     site_write_allocate(1);
     turn_add(&site.message, STUN_TYPES_ATTRIBUTE_EVEN_PORT, "", 1);
-    CHECK(site_ask(0) == 508 && site.action->took == 0);
-    CHECK(site_allocate(0, 2) == 0 && site.action->took == 1);
+    CHECK(site_ask(0) == 508 && site.action->ipv4.took == 0);
+    CHECK(site_allocate(0, 2) == 0 && site.action->ipv4.took == 1);
     site_end();
 }
 
-/* What the table has no address of isn't offered. */
+/* A family that the server doesn't relay isn't offered, even if a socket is ready; any number but 0 says
+   that it does. */
 static void test_families(void) {
-    site_begin("a server without IPv4");
-    site.ready->ipv4 = 0;
-    CHECK(site_allocate(0, 1) == 440 && site.action->took == 0);
-    site.ready->ipv4 = 2;
-    CHECK(site_allocate(0, 1) == 0 && site.action->took == 1);
+    static const uint16_t relays[] = {0, 1, 2, 0x8000};
+    size_t i;
+    for (i = 0; i < COUNT(relays); i++) {
+        turn_making it;
+        site_begin_alone("a server without IPv4, and with it");
+        it = site_making();
+        it.settings.limits.ipv4 = relays[i];
+        site_begin_by(&it);
+        CHECK(site_allocate(0, 1) == (relays[i] == 0 ? 440u : 0u));
+        CHECK(site.action->ipv4.took == (relays[i] != 0) && site.action->ipv6.took == 0);
+        site_end();
+    }
+}
+
+/* Asks for a relayed address of each family. */
+static uint32_t allocate_both(uint64_t now) {
+    site_write_allocate(1);
+    turn_add_first(&site.message, STUN_TYPES_ATTRIBUTE_ADDITIONAL_ADDRESS_FAMILY, 2);
+    return site_ask(now);
+}
+
+static const stun_types_address own_ipv6 = {
+    {0x20, 1, 0x0D, 0xB8, 0, 0, 0, 0, 0, 0, 0, 0, 0, 0, 0, 1}, 50003, 6};
+
+/* A response may have taken two sockets; each is a relayed address with a number and an end of its own. */
+static void test_both_families(void) {
+    stun_types_turn_opened ipv4, ipv6;
+    uint64_t ended[2];
+    slice bytes;
+    site_begin("a relayed address of each family");
+    site.ready->any_ipv6 = own_ipv6;
+    CHECK(allocate_both(0) == 0);
+    ipv4 = site.action->ipv4;
+    ipv6 = site.action->ipv6;
+    CHECK(ipv4.took == 1 && ipv6.took == 1 && ipv4.relay != ipv6.relay);
+    CHECK(turn_is_same_address(&ipv4.relayed, &site.ready->any_ipv4));
+    CHECK(turn_is_same_address(&ipv6.relayed, &site.ready->any_ipv6));
+    CHECK(stun_types_turn_count(site.server) == 2);
+    bytes = site_datagram();
+    site_take(0, bytes);
+    CHECK(site.action->code == 0 && site.action->ipv4.took == 0 && site.action->ipv6.took == 0);
+    CHECK(stun_types_turn_end(site.server, 0, ipv6.relay) == 1);
+    CHECK(stun_types_turn_ended(site.server, ended, 2, 0) == 1 && ended[0] == ipv6.relay);
+    CHECK(stun_types_turn_count(site.server) == 1 && site_permit(0, &site_peer) == 0);
+    CHECK(site_refresh(0, 0) == 0 && site.action->ended == 1);
+    CHECK(stun_types_turn_ended(site.server, ended, 2, 0) == 1 && ended[0] == ipv4.relay);
+    site_end();
+    site_begin("one of them has no socket");
+    CHECK(allocate_both(0) == 0);
+    CHECK(site.action->ipv4.took == 1 && is_zero(&site.action->ipv6, sizeof site.action->ipv6));
     site_end();
 }
 
@@ -288,7 +334,7 @@ static void test_software(void) {
     site_take(0, site_datagram());
     all = site_response();
     CHECK(site.action->kind == STUN_TYPES_TURN_RESPONSE && site.action->code == 401
-          && site.action->took == 0);
+          && site.action->ipv4.took == 0);
     CHECK(!turn_find(all.bytes, all.length, STUN_TYPES_ATTRIBUTE_SOFTWARE, &value));
     turn_begin(&site.message, STUN_TYPES_CLASS_REQUEST, STUN_TYPES_METHOD_REFRESH, 3);
     turn_add(&site.message, 0x7FFF, "", 0);
@@ -340,9 +386,9 @@ static void test_window(void) {
         site_write_allocate(1);
         turn_sign(&site.message, &site.alice, STUN_TYPES_PASSWORD_MD5, &nonce);
         site_take(end * SECOND, site_datagram());
-        CHECK(site.action->code == 438 && site.action->took == 0);
+        CHECK(site.action->code == 438 && site.action->ipv4.took == 0);
         site_take(end * SECOND - 1, site_datagram());
-        CHECK(site.action->code == 0 && site.action->took == 1);
+        CHECK(site.action->code == 0 && site.action->ipv4.took == 1);
         site_end();
     }
 }
@@ -359,7 +405,7 @@ static void test_small_room(void) {
     site_begin("a room that is too small");
     CHECK(site_allocate(0, 1) == 0);
     size = site.action->length;
-    relay = site.action->relay;
+    relay = site.action->ipv4.relay;
     site.from->client.port++;
     site.ready->any_ipv4.port++;
     site_write_allocate(1);
@@ -370,12 +416,12 @@ static void test_small_room(void) {
     bytes = site_datagram();
     small = site_take_in(site.server, 0, bytes, size - 1);
     ANSWERS(small, LENGTHS(STUN_TYPES_TOO_SMALL, size, size - 1));
-    CHECK(site.action->took == 1 && site.action->relay != relay);
-    CHECK(turn_is_same_address(&site.action->peer, &site.ready->any_ipv4));
-    relay = site.action->relay;
+    CHECK(site.action->ipv4.took == 1 && site.action->ipv4.relay != relay);
+    CHECK(turn_is_same_address(&site.action->ipv4.relayed, &site.ready->any_ipv4));
+    relay = site.action->ipv4.relay;
     site_take(0, bytes);
     CHECK(site.action->kind == STUN_TYPES_TURN_RESPONSE && site.action->code == 0
-          && site.action->took == 0);
+          && site.action->ipv4.took == 0);
     CHECK(site.action->length == size && site_permit(0, &site_peer) == 0
           && site_sends_to(0, &site_peer));
     CHECK(site.action->relay == relay);
@@ -465,7 +511,7 @@ static void test_heads(void) {
     size_t i;
     site_begin("a head that is too small");
     CHECK(site_allocate(0, 1) == 0);
-    relay = site.action->relay;
+    relay = site.action->ipv4.relay;
     CHECK(site_permit(0, &site_peer) == 0);
     for (i = 0; i < COUNT(sizes); i++) {
         uint8_t *head = room(sizes[i]);
@@ -505,7 +551,7 @@ static void test_padding(void) {
         site_begin(stream ? "padding on a stream" : "padding over UDP");
         site.from->stream = (uint16_t)stream;
         CHECK(site_allocate(0, 1) == 0);
-        relay = site.action->relay;
+        relay = site.action->ipv4.relay;
         CHECK(site_bind(0, 0x4000, &site_peer) == 0);
         port.port++;
         for (length = 0; length < 9; length++) {
@@ -521,42 +567,134 @@ static void test_padding(void) {
     }
 }
 
-/* ---- polls */
+/* ---- ends */
 
-static void test_polls(void) {
-    static const size_t rooms[] = {2, 0, 2, 2};
-    bool is_ended[5] = {false};
-    uint64_t relays[5];
-    size_t i, j, k, left = 5;
-    site_begin("polls in portions");
-    for (i = 0; i < 5; i++) {
-        turn_making it = site_making();
-        if (i == 0) {
-            it.settings.of_user = 5;
-            ANSWERS(site_make(site.server, &it), OK_ANSWER);
-        }
-        site.from->client.port = (uint16_t)(6000 + i);
-        site.ready->any_ipv4.port = (uint16_t)(50000 + i);
-        CHECK(site_allocate(0, 1) == 0);
-        relays[i] = site.action->relay;
-    }
-    CHECK(stun_types_turn_poll(site.server, 600 * SECOND - 1, NULL, 0) == 0);
-    for (i = 0; i < COUNT(rooms); i++) {
-        uint64_t *ended = (uint64_t *)(void *)room(rooms[i] * sizeof *ended);
-        const size_t count = stun_types_turn_poll(site.server, 600 * SECOND, ended, rooms[i]);
-        CHECK(count == (left < rooms[i] ? left : rooms[i]));
-        left -= count;
-        for (j = 0; j < count && j < rooms[i]; j++)
-            for (k = 0; k < 5; k++)
+/* How many of these numbers are among the ended ones, which are read by so many at a time. */
+static size_t count_ended(const uint64_t *relays, size_t count, size_t portion) {
+    bool is_ended[8] = {false};
+    size_t first = 0, wrote, j, k, all = 0;
+    do {
+        uint64_t *ended = (uint64_t *)(void *)room(portion * sizeof *ended);
+        wrote = stun_types_turn_ended(site.server, ended, portion, first);
+        CHECK(wrote <= portion);
+        for (j = 0; j < wrote && j < portion; j++)
+            for (k = 0; k < count; k++)
                 if (relays[k] == ended[j]) {
                     CHECK(!is_ended[k]);
                     is_ended[k] = true;
                 }
-        if (count < rooms[i])
-            CHECK(is_untouched(ended + count, (rooms[i] - count) * sizeof *ended));
+        CHECK(is_untouched(ended + wrote, (portion - wrote) * sizeof *ended));
+        first += wrote;
+    } while (wrote > 0);
+    for (k = 0; k < count; k++) all += is_ended[k];
+    CHECK(all == first);
+    return all;
+}
+
+/* Makes a server, and gets this many relayed addresses for as many clients. */
+static void begin_relays(const char *name, uint64_t *relays, size_t count) {
+    turn_making it;
+    size_t i, j;
+    site_begin_alone(name);
+    it = site_making();
+    it.settings.limits.relays_per_user = (uint32_t)count;
+    site_begin_by(&it);
+    for (i = 0; i < count; i++) {
+        site.from->client.port = (uint16_t)(6000 + i);
+        site.ready->any_ipv4.port = (uint16_t)(50000 + i);
+        CHECK(site_allocate(0, 1) == 0);
+        relays[i] = site.action->ipv4.relay;
+        CHECK((relays[i] & 0xFFFFFF) < it.settings.limits.relays);
+        for (j = 0; j < i; j++) CHECK((relays[j] & 0xFFFFFF) != (relays[i] & 0xFFFFFF));
     }
-    for (k = 0; k < 5; k++) CHECK(is_ended[k]);
-    CHECK(stun_types_turn_poll(site.server, 600 * SECOND, relays, 5) == 0);
+}
+
+/* What has expired is ended by a poll, by a client's datagram whatever it is, or by a peer's. */
+static void test_ends(void) {
+    static const char *const names[] = {"ended by a poll", "by a datagram that is dropped", "by a request",
+                                        "by a peer's datagram", "by another end", "by another user's end"};
+    uint64_t relays[5], one;
+    size_t i, portion;
+    for (i = 0; i < COUNT(names); i++)
+        for (portion = 1; portion <= 6; portion += 2) {
+            size_t ended = 0;
+            begin_relays(names[i], relays, 5);
+            CHECK(stun_types_turn_poll(site.server, 600 * SECOND - 1) == 0);
+            CHECK(stun_types_turn_ended(site.server, &one, 1, 0) == 0);
+            CHECK(stun_types_turn_count(site.server) == 5);
+            CHECK(stun_types_turn_next_due(site.server) == 600 * SECOND);
+            switch (i) {
+            case 0: ended = stun_types_turn_poll(site.server, 600 * SECOND); break;
+            case 1:
+                site_take(600 * SECOND, text("?"));
+                CHECK(site.action->kind == STUN_TYPES_TURN_NOTHING);
+                ended = site.action->ended;
+                break;
+            case 2:
+                CHECK(site_refresh(600 * SECOND, 600) == 437);
+                ended = site.action->ended;
+                break;
+            case 3: {
+                const stun_types_turn_delivery *told =
+                    site_deliver(600 * SECOND, relays[0], &site_peer, 3);
+                CHECK(told->sends == 0);
+                ended = told->ended;
+                break;
+            }
+            case 4: ended = stun_types_turn_end(site.server, 600 * SECOND, relays[0]); break;
+            default: ended = site_end_user(600 * SECOND, "bob");
+            }
+            CHECK(ended == 5 && count_ended(relays, 5, portion) == 5);
+            CHECK(stun_types_turn_ended(site.server, &one, 1, 5) == 0);
+            CHECK(stun_types_turn_ended(site.server, &one, 1, SIZE_MAX) == 0);
+            CHECK(stun_types_turn_ended(site.server, NULL, 0, 0) == 0);
+            CHECK(stun_types_turn_count(site.server) == 0);
+            CHECK(stun_types_turn_next_due(site.server) == UINT64_MAX);
+            CHECK(stun_types_turn_poll(site.server, 600 * SECOND) == 0);
+            CHECK(stun_types_turn_ended(site.server, &one, 1, 0) == 0);
+            site_end();
+        }
+}
+
+/* The caller ends one relayed address, or all of a user: the others stay. */
+static void test_ending(void) {
+    turn_user alice;
+    uint64_t relays[4], other, one = 0;
+    begin_relays("ended by the caller", relays, 4);
+    alice = site.alice;
+    turn_user_make(&site.alice, "bob", "builder");
+    site.from->client.port = 7000;
+    CHECK(site_allocate(0, 1) == 0);
+    other = site.action->ipv4.relay;
+    turn_user_free(&site.alice);
+    site.alice = alice;
+    CHECK(stun_types_turn_end(site.server, 0, other ^ 1) == 0);
+    CHECK(stun_types_turn_end(site.server, 0, relays[2]) == 1);
+    CHECK(stun_types_turn_ended(site.server, &one, 1, 0) == 1 && one == relays[2]);
+    CHECK(stun_types_turn_end(site.server, 0, relays[2]) == 0);
+    CHECK(site_end_user(0, "carol") == 0);
+    CHECK(site_end_user(0, "") == 0);
+    CHECK(site_end_user(0, "alice") == 3);
+    CHECK(count_ended(relays, 4, 2) == 3 && stun_types_turn_count(site.server) == 1);
+    CHECK(site_end_user(0, "bob") == 1);
+    CHECK(stun_types_turn_ended(site.server, &one, 1, 0) == 1 && one == other);
+    site_end();
+}
+
+/* A call that does nothing reports nothing, and leaves what the last one ended. */
+static void test_ended_stays(void) {
+    uint64_t relays[2], one = 0;
+    stun_types_turn_datagram datagram;
+    begin_relays("a call that does nothing", relays, 2);
+    CHECK(stun_types_turn_end(site.server, 0, relays[1]) == 1);
+    datagram = site_given(text("?"));
+    datagram.reserved = 1;
+    ANSWERS(stun_types_turn_client(site.server, 600 * SECOND, &datagram, no_key(), no_key(), site.place,
+                                   SITE_ROOM, site.action),
+            PLAIN(STUN_TYPES_BAD_ARGUMENT));
+    CHECK(is_zero(site.action, sizeof *site.action));
+    CHECK(stun_types_turn_ended(site.server, &one, 1, 0) == 1 && one == relays[1]);
+    CHECK(stun_types_turn_count(site.server) == 1);
     site_end();
 }
 
@@ -577,7 +715,7 @@ static void test_two(void) {
     CHECK(site.action->kind == STUN_TYPES_TURN_NOTHING);
     stun_types_turn_free(site.server);
     *site.server = *other;
-    CHECK(site_refresh(0, 600) == 437 && site_allocate(0, 1) == 0 && site.action->took == 1);
+    CHECK(site_refresh(0, 600) == 437 && site_allocate(0, 1) == 0 && site.action->ipv4.took == 1);
     site_end();
 }
 
@@ -585,10 +723,11 @@ static void test_clock(void) {
     uint64_t relay;
     site_begin("the last moments of the clock");
     CHECK(site_allocate(UINT64_MAX - 1, 1) == 0 && site_lifetime() == 600);
-    relay = site.action->relay;
+    relay = site.action->ipv4.relay;
     CHECK(site_permit(UINT64_MAX - 1, &site_peer) == 0 && site_sends_to(UINT64_MAX, &site_peer));
     CHECK(site_refresh(UINT64_MAX, 600) == 0 && site_lifetime() == 600);
-    CHECK(stun_types_turn_poll(site.server, UINT64_MAX, &relay, 1) == 0);
+    CHECK(stun_types_turn_poll(site.server, UINT64_MAX) == 0 && relay != UINT64_MAX);
+    CHECK(stun_types_turn_next_due(site.server) == UINT64_MAX && stun_types_turn_count(site.server) == 1);
     site_end();
 }
 
@@ -644,6 +783,34 @@ static void test_refused_again(void) {
     }
 }
 
+/* Replacing the rules: those that were there stay, and nothing is kept of the new ones. */
+static void test_refused_rules(void) {
+    long number, refused = 1;
+    for (number = 1; refused != 0; number++) {
+        turn_making it;
+        long held;
+        stun_types_answer answer;
+        site_begin("refused memory, replacing the rules");
+        it = site_making();
+        CHECK(site_allocate(0, 1) == 0);
+        it.denied[0].address = it.allowed[0].address = site_peer;
+        it.denied[0].length = it.allowed[0].length = 32;
+        it.denied_count = it.allowed_count = 1;
+        held = heap_held();
+        heap_refuse(number);
+        answer = site_set_rules(site.server, &it);
+        refused = heap_refused();
+        heap_refuse(0);
+        if (refused == 0) ANSWERS(answer, OK_ANSWER);
+        else {
+            ANSWERS(answer, PLAIN(STUN_TYPES_OUT_OF_MEMORY));
+            CHECK(heap_held() == held);
+        }
+        CHECK(site_permit(0, &site_peer) == (refused == 0 ? 403u : 0u));
+        site_end();
+    }
+}
+
 /* Requests, each allocation of which is refused in turn: unsigned, refused, answered, and an
    indication. The same request, sent again, is answered as it would have been. */
 static const struct {
@@ -681,11 +848,11 @@ static void test_refused_requests(void) {
             answer = site_take_in(site.server, 0, bytes, SITE_ROOM);
             refused = heap_refused();
             heap_refuse(0);
-            took = site.action->took;
+            took = site.action->ipv4.took;
             if (refused != 0) {
                 ANSWERS(answer, PLAIN(STUN_TYPES_OUT_OF_MEMORY));
                 site_take(0, bytes);
-                took += site.action->took;
+                took += site.action->ipv4.took;
             } else ANSWERS(answer, OK_ANSWER);
             CHECK(site.action->kind == STUN_TYPES_TURN_RESPONSE
                   && site.action->code == requests[i].code);
@@ -700,7 +867,7 @@ static void test_no_memory(void) {
     uint64_t relay;
     site_begin("data takes no memory");
     CHECK(site_allocate(0, 1) == 0);
-    relay = site.action->relay;
+    relay = site.action->ipv4.relay;
     CHECK(site_bind(0, 0x4000, &site_peer) == 0);
     heap_allow(false);
     CHECK(site_sends_to(0, &site_peer));
@@ -709,7 +876,10 @@ static void test_no_memory(void) {
     CHECK(site.action->kind == STUN_TYPES_TURN_TO_PEER && site.action->at == 4
           && site.action->length == 3);
     CHECK(site_deliver(0, relay, &site_peer, 3)->sends == 1);
-    CHECK(stun_types_turn_poll(site.server, 0, &relay, 1) == 0);
+    CHECK(stun_types_turn_poll(site.server, 0) == 0 && stun_types_turn_count(site.server) == 1);
+    CHECK(stun_types_turn_end(site.server, 0, relay) == 1);
+    CHECK(stun_types_turn_ended(site.server, &relay, 1, 0) == 1);
+    CHECK(site_end_user(0, "alice") == 0);
     heap_allow(true);
     site_end();
 }
@@ -724,6 +894,7 @@ void test_turn_answers(void) {
     test_again();
     test_even();
     test_families();
+    test_both_families();
     test_software();
     test_features();
     test_window();
@@ -732,11 +903,14 @@ void test_turn_answers(void) {
     test_longest();
     test_heads();
     test_padding();
-    test_polls();
+    test_ends();
+    test_ending();
+    test_ended_stays();
     test_two();
     test_clock();
     test_refused_making();
     test_refused_again();
+    test_refused_rules();
     test_refused_requests();
     test_no_memory();
 }

@@ -206,7 +206,8 @@ stun_types_answer turn_take(const turn_call *call, uint64_t now, slice datagram,
     stun_types_answer answer = take_once(call, now, datagram, false, NULL);
     if (answer.code != STUN_TYPES_OK || call->action->kind != STUN_TYPES_TURN_NEEDS_KEY)
         return answer;
-    CHECK(call->action->took == 0 && call->action->code == 0);
+    CHECK(call->action->ipv4.took == 0 && call->action->ipv6.took == 0
+          && call->action->ended == 0 && call->action->code == 0);
     answer = take_once(call, now, datagram, true, user);
     if (answer.code == STUN_TYPES_OK) CHECK(call->action->kind != STUN_TYPES_TURN_NEEDS_KEY);
     return answer;

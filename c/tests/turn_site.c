@@ -13,13 +13,9 @@ const stun_types_address site_other_peer = {{198, 51, 100, 8}, 4000, 4};
 const stun_types_turn_settings site_settings = {600,
                                                 {1, 2},
                                                 STUN_TYPES_POLICY_BOTH,
-                                                8,
-                                                3,
-                                                3600,
+                                                {8, 3, 0, 3600, 1, 1, 0, 0, 0, 0},
                                                 STUN_TYPES_FEATURE_PASSWORD_ALGORITHMS
                                                     | STUN_TYPES_FEATURE_USERNAME_ANONYMITY,
-                                                0,
-                                                0,
                                                 NULL,
                                                 0,
                                                 NULL,
@@ -51,7 +47,7 @@ static const void *list(const void *all, size_t count, size_t size) {
     return given(all, count * size).bytes;
 }
 
-stun_types_answer site_make(stun_types_turn *to, const turn_making *it) {
+static const stun_types_turn_settings *settings_of(const turn_making *it) {
     stun_types_turn_settings settings = it->settings;
     settings.realm = it->realm.bytes;
     settings.realm_length = it->realm.length;
@@ -63,7 +59,15 @@ stun_types_answer site_make(stun_types_turn *to, const turn_making *it) {
     settings.allowed_count = it->allowed_count;
     settings.listening = list(it->listening, it->listening_count, sizeof *it->listening);
     settings.listening_count = it->listening_count;
-    return stun_types_turn_new(to, list(&settings, 1, sizeof settings), it->secret);
+    return list(&settings, 1, sizeof settings);
+}
+
+stun_types_answer site_make(stun_types_turn *to, const turn_making *it) {
+    return stun_types_turn_new(to, settings_of(it), it->secret);
+}
+
+stun_types_answer site_set_rules(stun_types_turn *of, const turn_making *it) {
+    return stun_types_turn_set_rules(of, settings_of(it));
 }
 
 void site_begin_alone(const char *name) {
@@ -79,7 +83,6 @@ void site_begin_alone(const char *name) {
     site.from->stream = 0;
     site.ready = NEW(stun_types_turn_ready);
     memset(site.ready, 0, sizeof *site.ready);
-    site.ready->ipv4 = 1;
     site.ready->any_ipv4 = site_own;
     site.ready->any_ipv4.port = 50001;
     site.ready->even_ipv4 = site_own;
@@ -205,6 +208,13 @@ uint32_t site_lifetime(void) {
 stun_types_address site_relayed(void) {
     slice all = site_response();
     return turn_address(all.bytes, all.length, STUN_TYPES_ATTRIBUTE_XOR_RELAYED_ADDRESS);
+}
+
+size_t site_end_user(uint64_t now, const char *name) {
+    stun_types_hash *user = NEW(stun_types_hash);
+    const slice one = text(name), realm = text(turn_realm);
+    ANSWERS(stun_types_userhash(one.bytes, one.length, realm.bytes, realm.length, user), OK_ANSWER);
+    return stun_types_turn_end_user(site.server, now, user);
 }
 
 stun_types_turn_delivery *site_deliver(uint64_t now, uint64_t relay,

@@ -40,6 +40,9 @@ typedef struct {
 turn_making site_making(void);
 stun_types_answer site_make(stun_types_turn *to, const turn_making *it);
 
+/* Replaces the rules of a server by those of what another one would be made by. */
+stun_types_answer site_set_rules(stun_types_turn *of, const turn_making *it);
+
 /* Begins a row with the keys and no server, makes the server, or both; and ends them. */
 void site_begin_alone(const char *name);
 void site_begin_by(const turn_making *it);
@@ -68,6 +71,9 @@ uint32_t site_allocate(uint64_t now, uint64_t id);
 uint32_t site_refresh(uint64_t now, uint32_t seconds);
 uint32_t site_permit(uint64_t now, const stun_types_address *address);
 uint32_t site_bind(uint64_t now, uint16_t number, const stun_types_address *address);
+
+/* Ends all relayed addresses of a user by name; returns how many ended. */
+size_t site_end_user(uint64_t now, const char *name);
 
 /* Sends three bytes to a peer; whether they are relayed. */
 bool site_sends_to(uint64_t now, const stun_types_address *address);

@@ -21,7 +21,7 @@ static const stun_types_address own = {{203, 0, 113, 1}, 3478, 4};
 /* What a server does in each step of a round: but for the number of the socket, the same in each
    round. */
 typedef struct {
-    uint32_t answer, kind, code, took, length, port;
+    uint32_t answer, kind, code, took, ended, length, port;
 } step;
 
 typedef struct {
@@ -104,10 +104,11 @@ static void take(agent *self) {
     done->answer = answer.code;
     done->kind = action.kind;
     done->code = action.code;
-    done->took = action.took;
+    done->took = action.ipv4.took;
+    done->ended = (uint32_t)action.ended;
     done->length = (uint32_t)action.length;
-    done->port = action.took ? 0 : action.peer.port;
-    if (action.took) self->relay = action.relay;
+    done->port = action.peer.port;
+    if (action.ipv4.took) self->relay = action.ipv4.relay;
     else if (action.kind == STUN_TYPES_TURN_TO_PEER && action.relay != self->relay)
         done->answer = 99;
 }
@@ -148,11 +149,10 @@ static void arrive(agent *self) {
     self->done.delivery.to.client.port = 0;
 }
 
-/* Ends allocations, also those of others. */
+/* (the relayed addresses of others have not expired either) */
 static void poll_sockets(agent *self) {
-    uint64_t ended[2 * THREADS];
     lock(self);
-    if (stun_types_turn_poll(self->server, 7000000000, ended, 2 * THREADS) > THREADS) abort();
+    if (stun_types_turn_poll(self->server, 7000000000) != 0) abort();
     unlock(self);
 }
 
@@ -211,8 +211,9 @@ static void make_server(stun_types_turn *server) {
     stun_types_turn_settings settings;
     memset(&settings, 0, sizeof settings);
     settings.window = 600;
-    settings.allocations = 2 * THREADS;
-    settings.of_user = THREADS;
+    settings.limits = stun_types_turn_limits_default();
+    settings.limits.relays = THREADS;
+    settings.limits.relays_per_user = THREADS;
     settings.realm = "realm";
     settings.realm_length = 5;
     settings.software = "a server";
@@ -230,7 +231,6 @@ static void begin_agent(agent *self, stun_types_turn *server, pthread_mutex_t *l
     self->from.client = peer;
     self->from.client.port = (uint16_t)(5000 + number);
     self->from.server = own;
-    self->ready.ipv4 = 1;
     self->ready.any_ipv4 = own;
     self->ready.any_ipv4.port = (uint16_t)(50000 + number);
 }
@@ -248,7 +248,7 @@ static void check_expected(void) {
     CHECK(one.next == STEPS);
     for (i = 0; i < STEPS; i++) {
         CHECK(expected.steps[i].answer == STUN_TYPES_OK && expected.steps[i].code == codes[i]);
-        CHECK(expected.steps[i].took == (i == 1));
+        CHECK(expected.steps[i].took == (i == 1) && expected.steps[i].ended == (i == 7));
     }
     CHECK(expected.steps[4].kind == STUN_TYPES_TURN_TO_PEER && expected.steps[4].length == 3);
     CHECK(expected.steps[5].kind == STUN_TYPES_TURN_TO_PEER && expected.steps[5].port == 4000);

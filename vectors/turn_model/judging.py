@@ -1,6 +1,6 @@
 """Which event a datagram of a client is, and how it is answered (RFC 8489, 6.3, 9.2.4; RFC 8656, 5, 7.2)."""
 import wire
-from machine import Refusal, Server
+from machine import Refusal, Server, family_of, spelled
 
 REALM = b"example.org"
 USERS = {b"alice": b"wonderland", b"bob": b"builder"}
@@ -41,6 +41,11 @@ def optional(message, type_, length=4):
 
 class Site(Server):
     """A server that is asked by datagrams."""
+    drawn = "0001020304050607"  # the token that it draws for the next reservation
+
+    def known(self):
+        """The types that it comprehends: DONT-FRAGMENT if it can set the DF bit (RFC 8656, 7.2 and 11.2)."""
+        return KNOWN | {wire.DONT_FRAGMENT} if "dont-fragment" in self.setup.options else KNOWN
 
     def from_client(self, client, octets):
         last = 0x7F if "old-channels" in self.setup.options else 0x4F
@@ -67,15 +72,18 @@ class Site(Server):
     def send_indication(self, client, message):
         peer = wire.read_xor_address(message.identity, message.get(wire.PEER))
         data = message.get(wire.DATA)
-        if message.unknown(KNOWN) or peer is None or data is None:
+        if message.unknown(self.known()) or peer is None or data is None:
             return self.note("unfit-send", "dropped")
-        return self.send(client, peer, data)
+        return self.send(client, peer, data, message.get(wire.DONT_FRAGMENT) is not None)
 
     def binding(self, message):
-        unknown = message.unknown(KNOWN)
+        unknown = message.unknown(self.known())
         return self.note("binding", f"420:{types(unknown)}:unsigned" if unknown else "ok:mapped:unsigned")
 
     # credentials
+
+    def is_valid(self, nonce):
+        return nonce == FRESH
 
     def credentials(self, message):
         """The user, and how the answer is signed; or the answer."""
@@ -90,7 +98,7 @@ class Site(Server):
         key = name in USERS and wire.long_term_key(name, REALM, USERS[name], algorithm)
         if not key or wire.verified(message, key) is None:
             return self.note("credentials-wrong", "401:challenge:unsigned"), None, None
-        if nonce != FRESH:
+        if not self.is_valid(nonce):
             return self.note("credentials-wrong", "438:challenge:unsigned"), None, None
         listed = promises_list(nonce) and message.get(wire.ALGORITHM) is not None
         return None, name.decode(), "sha256" if listed else "sha1"
@@ -109,22 +117,24 @@ class Site(Server):
         answer, user, sign = self.credentials(message)
         if answer:
             return answer
-        if unknown := message.unknown(KNOWN):
+        if unknown := message.unknown(self.known()):
             return self.note("unknown-types", f"420:{types(unknown)}:{sign}")
         return self.described(client, message, getattr(self, f"on_{method}")(client, user, message), sign)
 
     def described(self, client, message, output, sign):
         kind, *rest = output.split(":")
         if kind == "allocated":
-            family = self.of(client).family
-            partial = ":family-440" if message.get(wire.ADDITIONAL) is not None else ""
-            return f"ok:lifetime-{rest[1]}:relayed{family}-{rest[0]}:mapped{partial}:{sign}"
+            its = sorted(self.of(client), key=lambda it: it.family)
+            given = [f"relayed{it.family}-{it.number}" for it in its]
+            token = rest[rest.index("token") :] if "token" in rest else []
+            missing = [f"missing{it}" for it in rest[2 : len(rest) - len(token)]]
+            return ":".join(["ok", f"lifetime-{rest[1]}", *given, *token, "mapped", *missing, sign])
         if kind == "refreshed":
             return f"ok:lifetime-{rest[0]}:{sign}"
-        return f"ok:{sign}" if kind in ("permitted", "bound") else f"{kind}:{sign}"
+        return f"ok:{sign}" if kind in ("permitted", "bound") else f"{output}:{sign}"
 
     def wish(self, message):
-        """The family of the relayed address, or why there is none (7.2, checks 3 and 5 to 9)."""
+        """What relayed addresses are wanted, or why the octets alone are refused (7.2, checks 3 and 5 to 9)."""
         transport = message.get(wire.TRANSPORT)
         if transport is None or len(transport) != 4:
             return Refusal(400, "transport")
@@ -143,16 +153,32 @@ class Site(Server):
             or any(optional(message, type_, length) is False for type_, length in lengths)
         ):
             return Refusal(400, "conflict")
-        wanted = 4 if family is None else FAMILIES.get(family[0])
-        if wanted is None or wanted == 6 and "ipv4-only" in self.setup.options:
-            return Refusal(440, "family")
-        if pair or token is not None or "no-sockets" in self.setup.options:
-            return Refusal(508, "no-capacity")
-        return wanted
+        wanted = [4] if family is None else [FAMILIES.get(family[0])]
+        if wanted == [None]:
+            return Refusal(440, "unknown-family")
+        ready = self.setup.has_pair if pair else self.setup.has_socket
+        return [(it, ready(it)) for it in (wanted if more is None else [4, 6])]
 
     def on_allocate(self, client, user, message):
-        lifetime = optional(message, wire.LIFETIME) or 0
-        return self.allocate(client, user, message.identity.hex(), lifetime, self.wish(message))
+        """A server with an alternate of the client's family redirects a client that it has no capacity for (7.2, 11th
+        check; RFC 8489, 10). A reserved port is at this server, so a request with its token isn't redirected."""
+        answer, token = self.transaction_id(client, user, message), message.get(wire.TOKEN)
+        alternate = self.setup.alternate(family_of(client.client[0]))
+        if answer != "508" or token is not None or alternate is None:
+            return answer
+        return self.note("redirected", f"300:alternate:{spelled(alternate)}")
+
+    def transaction_id(self, client, user, message):
+        lifetime, wish = optional(message, wire.LIFETIME) or 0, self.wish(message)
+        asked = client, user, message.identity.hex(), lifetime
+        even, token = message.get(wire.EVEN_PORT), message.get(wire.TOKEN)
+        if isinstance(wish, Refusal):
+            return self.allocate(*asked, wish)
+        if token is not None:
+            return self.claim(*asked, token.hex())
+        if even is not None and even[0] >= 0x80:
+            return self.reserve(*asked, wish, self.drawn)
+        return self.allocate(*asked, wish)
 
     def on_refresh(self, client, user, message):
         lifetime, family = optional(message, wire.LIFETIME), optional(message, wire.FAMILY)
@@ -182,11 +208,9 @@ class Site(Server):
         if kind != "channel":
             return output
         octets = bytes.fromhex(rest[1]) + len(data).to_bytes(2) + data
-        padding = bytes(-len(data) % 4) if next(it for it in self.live() if it.number == number).tuple.streams else b""
+        padding = bytes(-len(data) % 4) if self.at_socket(number).tuple.streams else b""
         return f"channel-data:{rest[0]}:{(octets + padding).hex()}"
 
 
 def types(numbers):
     return "types-" + "-".join(f"{it:04x}" for it in numbers)
-
-

@@ -14,8 +14,8 @@ METHODS = {
 # The types of attributes that the server and the files name.
 USERNAME, INTEGRITY, ERROR_CODE, UNKNOWN, CHANNEL_NUMBER, LIFETIME = 0x6, 0x8, 0x9, 0xA, 0xC, 0xD
 PEER, DATA, REALM, NONCE, RELAYED, FAMILY, EVEN_PORT, TRANSPORT = 0x12, 0x13, 0x14, 0x15, 0x16, 0x17, 0x18, 0x19
-INTEGRITY_256, ALGORITHM, USERHASH, MAPPED, TOKEN = 0x1C, 0x1D, 0x1E, 0x20, 0x22
-ADDITIONAL, FAMILY_ERROR, ALGORITHMS, SOFTWARE, FINGERPRINT = 0x8000, 0x8001, 0x8002, 0x8022, 0x8028
+DONT_FRAGMENT, INTEGRITY_256, ALGORITHM, USERHASH, MAPPED, TOKEN = 0x1A, 0x1C, 0x1D, 0x1E, 0x20, 0x22
+ADDITIONAL, FAMILY_ERROR, ALGORITHMS, SOFTWARE, ALTERNATE, FINGERPRINT = 0x8000, 0x8001, 0x8002, 0x8022, 0x8023, 0x8028
 
 
 @dataclass(frozen=True)
@@ -135,6 +135,12 @@ def xored(identity, family, address, port):
     """The value of an XOR-ed address (14.2)."""
     mask = COOKIE + identity
     return bytes([0, family, (port >> 8) ^ 0x21, (port & 255) ^ 0x12]) + bytes(a ^ b for a, b in zip(address, mask))
+
+
+def plain_address(server):
+    """The value of an address that isn't XOR-ed, as of a MAPPED-ADDRESS (14.1)."""
+    address, port = server
+    return bytes([0, 1 if len(address) == 4 else 2]) + port.to_bytes(2) + address
 
 
 def xor_address(identity, peer):

@@ -14,10 +14,11 @@ from steps import PATIENCE, Skipped, Wrong, check, run, wait_until
 
 NEW_NETWORK = 0x40000000
 LIBC = ctypes.CDLL(None, use_errno=True)
-# for documentation (RFC 5737, RFC 3849), and so not denied by default
+# for documentation (RFC 5737, RFC 3849): a server has to allow them
 SERVER = ("192.0.2.1", "2001:db8::1")
 LEFT = ("198.51.100.2", "2001:db8:1::2")
 RIGHT = ("203.0.113.2", "2001:db8:2::2")
+NETWORKS = ("192.0.2.0/24", "198.51.100.0/24", "203.0.113.0/24", "2001:db8::/32")
 LINK_LOCAL = "fe80::1"  # of the right one
 
 

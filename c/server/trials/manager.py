@@ -57,10 +57,10 @@ def passed_on(programs):
         words = ["127.0.0.1", free_port(["127.0.0.1"])]
         opened = [int(number) for number in numbers]
         status, _, told = run([*command, programs["server"], *words], pass_fds=opened)
-        check(status == 2, f"addresses beside sockets: status {status}: {told}")
+        check(status == 64, f"addresses beside sockets: status {status}: {told}")
         others = {**os.environ, "LISTEN_FDS": "1", "LISTEN_PID": "1"}
         status, _, told = run([programs["server"]], env=others)
-        check(status == 2, f"another process' sockets: status {status}: {told}")
+        check(status == 64, f"another process' sockets: status {status}: {told}")
         for number in ["33", "0", "x", "", "-1"]:
             news = f"os.environ.update(LISTEN_FDS='{number}', LISTEN_PID=str(os.getpid()))"
             status, _, told = run([*after(news), programs["server"], "-j", "2"])

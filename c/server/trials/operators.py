@@ -50,6 +50,14 @@ def settings(programs):
             check(has_software(server), "the file isn't read again")
             later = [server.wait_for("warning") for _ in range(2 if os.geteuid() == 0 else 1)]
             check({it.get("setting") for it in later} >= {"max-connections"}, f"it says {later}")
+            for changed, names in [("max-connections 3\n", []), ("max-connections 3\nrealm a\n", ["realm"]),
+                                   ("max-connections 3\nrealm a\n", []), ("max-connections 4\n", ["max-connections"]),
+                                   ("alternate 192.0.2.7:3478\n", [])]:
+                write(file, f"software 1\nidle-timeout 1\n{changed}")
+                server.counts(signal.SIGHUP)
+                said = [it for it in server.others if "needs-restart" in it]
+                check([it.split("setting=")[1].strip() for it in said] == names, f"{changed!r}: it says {said}")
+                server.others = [it for it in server.others if "needs-restart" not in it]
             for text, line in [("software 0\nsoftwar 1\n", 2), ("software 2\n", 1), ("rate\n", 1),
                                ("rate 1 2\n", 1), ("#" * 300 + "\n", 1)]:
                 write(file, text)
@@ -64,7 +72,7 @@ def settings(programs):
         write(file, "rate -1\n")
         words = ["-c", str(file), "127.0.0.1", free_port(["127.0.0.1"])]
         status, _, told = run([programs["server"], *words])
-        check(status == 3 and f"{file}:1: " in told, f"status {status}: {told}")
+        check(status == 78 and f"{file}:1: " in told, f"status {status}: {told}")
 
 
 def settings_file(programs):
@@ -77,8 +85,8 @@ def settings_file(programs):
     check(not re.search(r"^[^#\n]", text, re.M), "it changes something")
 
 
-def report(where):
-    """The counts, as Prometheus gets them at a port or a path."""
+def read_report(where):
+    """The text that Prometheus gets at a port or a path."""
     family = socket.AF_UNIX if isinstance(where, str) else socket.AF_INET
     with socket.socket(family, socket.SOCK_STREAM) as asking:
         asking.settimeout(PATIENCE)
@@ -89,9 +97,13 @@ def report(where):
             text += more
     head, _, body = text.decode().partition("\r\n\r\n")
     check(head.startswith("HTTP/1.0 200 OK\r\n") and "text/plain; version=0.0.4" in head, head)
-    line = r"# TYPE (\w+) (counter|gauge)\n(\1) (\d+)\n"
-    check(re.fullmatch(f"({line})+".replace(r"\1", r"\w+"), body), f"the report is {body!r}")
-    return {name: int(value) for _, _, name, value in re.findall(line, body)}
+    return body
+
+
+def report(where):
+    """The numbers of a report, by their names with their labels."""
+    lines = read_report(where).splitlines()
+    return {name: int(value) for name, _, value in (it.rpartition(" ") for it in lines if it[0] != "#")}
 
 
 def reports(programs):
@@ -168,7 +180,7 @@ def manual_page(programs):
     words = re.findall(r"^ {0,3}(-\w|[a-z0-9-]+) ", out, re.M)
     sources = "".join(it.read_text() for it in HERE.glob("*.c"))
     words += re.findall(r"event=([a-z-]+)", sources) + ["worker-died", "worker-hung"]
-    words += re.findall(r'= "((?:udp|tcp|turn|workers)_\w+)"', sources)
+    words += re.findall(r'= {"((?:udp|tcp|turn|workers|log|lines)_\w+)"', sources)
     check(len(words) > 40, f"the words are {words}")
     lacks = [it for it in words if it not in text]
     check(not lacks, f"it lacks {lacks}")

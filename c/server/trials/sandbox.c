@@ -120,7 +120,7 @@ static int outcome(int sandbox, int (*try)(void)) {
     pid_t child = fork();
     if (child == 0) {
         bool udp = sandbox == UDP || sandbox == UDP_RELAY;
-        if (sandbox >= LANDLOCK) close_off_system(NULL, 0);
+        if (sandbox >= LANDLOCK) close_off_system(NULL, 0, NULL);
         if (sandbox >= UDP) filter_calls(udp ? OWN : -1, sandbox >= UDP_RELAY);
         _exit(try() >= 0 ? 0 : errno);
     }
@@ -133,7 +133,7 @@ int main(void) {
                                              "tcp",     "udp-relay", "tcp-relay"};
     int version = 0;
     pid_t child = fork();
-    if (child == 0) _exit(close_off_system(NULL, 0));
+    if (child == 0) _exit(close_off_system(NULL, 0, NULL));
     waitpid(child, &version, 0);
     printf("landlock %d filter %d\n", WEXITSTATUS(version), can_filter());
     fflush(stdout);

@@ -10,13 +10,12 @@ def wrong_arguments(programs):
                 for options in ([], ["-t"]) for port in ports]
     words = [[], ["127.0.0.1"], ["127.0.0.1", "1", "::1"], ["-x", "::1", "1"], ["-j", "0", "::1", "1"],
              ["-j", "+2", "::1", "1"], ["-j", "33", "::1", "1", "127.0.0.1", "1"],
-             ["-o", "rate", "::1", "1"], ["-o", "rate=", "::1", "1"], ["-o", "age=1", "::1", "1"],
-             ["-o", "max-connections=0", "::1", "1"], ["-U", "", "::1", "1"], ["-c", "", "::1", "1"],
+             ["-U", "", "::1", "1"], ["-c", "", "::1", "1"],
              *(["-m", where, "::1", "1"] for where in ("", "0", "70000", "reports")),
              ["example.org", "1"], ["010.0.0.1", "1"]]
     for command in commands + [[programs["server"], *options] for options in words]:
         status, out, told = run(command)
-        right = status == 2 and out == "" and told.startswith("usage: ")
+        right = status == 64 and out == "" and told.startswith("usage: ")
         check(right, f"{command}: status {status}: {out}{told}")
     status, out, _ = run([programs["server"], "-h"])
     check(status == 0 and out.startswith("usage: ") and "max-age" in out, f"-h prints {out}")

@@ -213,7 +213,7 @@ def last_displaced(programs):
             check(is_closed(last), "another connection is closed")
             last = other
         last.close()
-        time.sleep(0.1)
+        wait_until(lambda: server.sockets() == [1, 4], "a connection outlasts its client")
         for stream in [all_of.enter_context(server.connect()), *kept]:
             ask_on(stream)
         expect(server.end(), tcp_accepted=8, tcp_displaced=3, tcp_received=17, tcp_sent=17)

@@ -31,7 +31,7 @@ USERNAME, INTEGRITY, ERROR_CODE, REALM, NONCE = 0x0006, 0x0008, 0x0009, 0x0014, 
 CHANNEL, LIFETIME, PEER, CONTENT, RELAYED = 0x000C, 0x000D, 0x0012, 0x0013, 0x0016
 FAMILY, EVEN_PORT, TRANSPORT, INTEGRITY_SHA256 = 0x0017, 0x0018, 0x0019, 0x001C
 PASSWORD_ALGORITHM, USERHASH, PASSWORD_ALGORITHMS = 0x001D, 0x001E, 0x8002
-UNKNOWN_ATTRIBUTES, SOFTWARE = 0x000A, 0x8022
+UNKNOWN_ATTRIBUTES, SOFTWARE, MAPPED = 0x000A, 0x8022, 0x0020
 UDP = (TRANSPORT, b"\x11\0\0\0")
 ALLOWING = ["-o", "allow=127.0.0.0/8", "-o", "allow=::1"]
 OTHER = {"127.0.0.1": "127.0.0.9", "::1": "::1"}  # where peers are
@@ -231,6 +231,7 @@ class Peer:
 
     def __init__(self, at="127.0.0.9"):
         self.socket = socket.socket(socket.AF_INET6 if ":" in at else socket.AF_INET, socket.SOCK_DGRAM)
+        self.socket.setsockopt(socket.SOL_SOCKET, socket.SO_RCVBUF, 1 << 20)
         self.socket.settimeout(PATIENCE)
         self.socket.bind((at, 0))
         self.address = self.socket.getsockname()[:2]
@@ -250,23 +251,25 @@ class Peer:
 
 
 @contextlib.contextmanager
-def turn_server(programs, *options, users="user pass\n", secret=None, at=("127.0.0.1",), allowing=True,
+def turn_server(programs, *options, users="user pass\n", secret=None, at=("127.0.0.1",), allowing=True, lines="",
                 **how):
-    """A server that relays, its settings in a file of its folder."""
+    """A server that relays, its settings in a file of its folder, to which the lines are added."""
     with folder_of(programs) as folder:
         file = folder / "stun-server.conf"
-        lines = ["turn 1", "realm example.org"]
+        settings = ["turn 1", "realm example.org"]
         for name, text in (("users", users), ("secret", secret)):
             if text is not None:
                 write(folder / name, text)
-                lines.append(f"{name} {folder / name}")
-        write(file, "\n".join(lines) + "\n")
+                settings.append(f"{name} {folder / name}")
+        settings = "\n".join(settings) + "\n"
+        write(file, settings + lines)
         words = [*(ALLOWING if allowing else []), *programs.get("options", []), *options]
         with Server(programs["server"], "-c", str(file), *words, at=at, **how) as server:
-            server.folder = folder
+            server.folder, server.settings = folder, settings
             for address in at:
                 for stream in {False, "-t" in words}:
-                    with Client(server, at={"::": "::1"}.get(address, address), stream=stream) as client:
+                    where = {"::": "::1"}.get(address, address)
+                    with Client(server, at=where, source=OTHER.get(where), stream=stream) as client:
                         client.ask_with(REQUEST + bytes(12))  # (now it serves)
                         if stream:  # (its socket isn't one of those that a trial counts)
                             client.socket.shutdown(socket.SHUT_WR)
@@ -279,6 +282,11 @@ def ended(server):
     counted = server.end()
     check(counted["workers_died"] == 0, f"workers have died: {counted}")
     return counted
+
+
+def reset(server, lines):
+    """Has a server read its settings with other lines that are added."""
+    reread(server, "stun-server.conf", server.settings + lines)
 
 
 def reread(server, name, text):
@@ -475,13 +483,18 @@ def credentials(programs):
 
 
 def users_again(programs):
-    """The users are read again at SIGHUP, in each process; who has an allocation and is no user any more
-    is refused from then on. A wrong file changes nothing."""
-    with turn_server(programs, "-t") as server, Client(server) as client:
+    """The users are read again at SIGHUP, in each process; who is no user any more is refused from then on,
+    and has no allocation. A wrong file changes nothing."""
+    with turn_server(programs, "-t", users="user pass\nother word\n") as server, Client(server) as client, \
+            Client(server, "other", "word") as kept, Client(server, stream=True) as streams:
         client.allocate()
+        streams.allocate()
+        kept.allocate()
         reread(server, "users", "other word\n")
         check(server.wait_for("users-read")["users"] == "1", "another number of users")
+        wait_until(lambda: server.counts()["turn_ended"] == 2, "relays of a user who is revoked last")
         client.refresh(wanted=401)
+        kept.refresh()
         for stream in (False, True):
             with Client(server, "other", "word", stream=stream) as other:
                 other.allocate()
@@ -517,9 +530,9 @@ def time_limited(programs):
         ]:
             with Client(server, user, password, **how) as client:
                 client.allocate(wanted=wanted)
-        with Client(server, *limited_name("north", 2)) as client, Peer() as peer:
+        with Client(server, *limited_name("north", 4)) as client, Peer() as peer:
             relayed = client.allocate()
-            time.sleep(3)
+            time.sleep(5)
             exchange(client, peer, relayed, b"data")
             check(client.refresh() == 600, "the allocation ends")
             with Client(server, client.user, client.password) as later:
@@ -558,6 +571,44 @@ def quotas(programs):
         check(counted["turn_refused"] >= 2 and counted["turn_allocated"] == 6, str(counted))
 
 
+def quotas_again(programs):
+    """The quota of a user changes at SIGHUP, and the lifetime: a higher one has room at once; with a lower one what there is stays, and
+    a request that is sent again has its response still."""
+    with turn_server(programs, "-t", lines="user-allocations 1\n", users="user pass\nother pass\n") as server, \
+            contextlib.ExitStack() as all_of:
+        def client(*given, **how):
+            return all_of.enter_context(Client(server, *given, **how))
+        clients = [client() for _ in range(5)]
+        clients[0].challenge = clients[0].ask_with(clients[0].request(ALLOCATE, UDP, sign=False)).values
+        request = clients[0].request(ALLOCATE, UDP)
+        first = clients[0].ask_with(request).address(RELAYED)
+        again = clients[0].ask_with(request)
+        check(again.code == 0 and again.address(RELAYED) == first, "a request that is sent again is refused")
+        clients[0].allocate(wanted=437)
+        clients[1].allocate(wanted=486)
+        for sha256 in (False, True):
+            client(sha256=sha256).allocate(wanted=486)
+        client("other").allocate()
+        reset(server, "user-allocations 3\n")
+        clients[1].allocate()
+        both = client(stream=True)
+        both.allocate()  # (each process has its own)
+        clients[2].allocate()
+        clients[3].allocate(wanted=486)
+        reset(server, "user-allocations 1\n")
+        for it in clients[:3]:
+            check(it.refresh() == 600, "a lower quota ends an allocation")
+        for it, wanted in zip(clients[:3], (486, 486, 0)):
+            it.refresh(0)
+            clients[3].allocate(wanted=wanted)
+        check(both.refresh(7200) == 3600, "another lifetime")
+        reset(server, "user-allocations 1\nlifetime 1200\n")
+        check(both.refresh(7200) == 1200, "the lifetime doesn't change")
+        reset(server, "user-allocations 3\n")
+        clients[4].allocate()
+        check(ended(server)["turn_allocated"] == 7, "another number of allocations")
+
+
 def no_ports(programs):
     """If no port is left, or no file, there are no more allocations; all else goes on."""
     for options, command, most in [
@@ -587,13 +638,13 @@ def forbidden(programs):
     """Peers in the server's own networks are forbidden, in all spellings, and those that it denies; the
     server itself is, even if its address is allowed."""
     four = ["127.0.0.1", "0.0.0.0", "0.1.2.3", "10.0.0.1", "100.64.0.1", "169.254.169.254", "172.16.0.1",
-            "192.168.1.1", "224.0.0.1", "255.255.255.255", "198.51.100.7"]
+            "192.168.1.1", "224.0.0.1", "255.255.255.255", "198.51.103.7"]
     six = ["::1", "::", "::ffff:10.0.0.1", "::ffff:127.0.0.1", "::127.0.0.1", "64:ff9b::7f00:1",
-           "2002:7f00:1::1", "fe80::1", "fc00::1", "ff02::1", "2001:db8:7::1"]
-    options = ["-o", "deny=198.51.100.0/24", "-o", "deny=2001:db8:7::/48"]
+           "2002:7f00:1::1", "fe80::1", "fc00::1", "ff02::1", "2600:7::1"]
+    options = ["-o", "deny=198.51.103.0/24", "-o", "deny=2600:7::/48"]
     at = ("127.0.0.1", "::1")
     with turn_server(programs, *options, at=at, allowing=False) as server:
-        for family, denied, allowed in [(b"\1", four, "198.51.101.1"), (b"\2", six, "2001:db8:8::1")]:
+        for family, denied, allowed in [(b"\1", four, "198.51.101.1"), (b"\2", six, "2600:8::1")]:
             with Client(server) as client:
                 client.allocate((FAMILY, family + b"\0\0\0"))
                 for address in denied:
@@ -626,14 +677,43 @@ def bandwidths(programs):
                 client.bind(0x4000, peer.address)
                 for _ in range(30):
                     client.send_on(0x4000, bytes(1000))
-            heard = 0
-            while peer.hears(0.5):
-                heard += 1
+            heard = relayed_of(60, server, peer)
             took = time.monotonic() - began
             check(most <= heard <= most + 20 * took + 2, f"{setting}: {heard} in {took:.1f} s")
             exchange(other, peer, other.allocate(), b"data")
-            counted = ended(server)
-            check(counted["turn_over"] == 60 - heard, f"{heard} and {counted}")
+            ended(server)
+
+
+def relayed_of(sent, server, peer):
+    """How many datagrams a peer hears of so many that are sent to it; the others are over a limit."""
+    def passed():
+        counted = server.counts(signal.SIGUSR1)
+        return counted["turn_to_peer"] if counted["turn_to_peer"] + counted["turn_over"] == sent else None
+    wait_until(lambda: passed() is not None, "datagrams are lost")
+    heard = passed()
+    check(all(peer.hears() for _ in range(heard)), "a peer hears less than is relayed")
+    check(peer.hears(0.3) is None, "a peer hears more than is relayed")
+    return heard
+
+
+def packet_rates(programs):
+    """Datagrams without data count too: so many a second pass by the packet rate of an allocation, and of a
+    user, and fewer by a bandwidth."""
+    for setting, rate, most in (("packet-rate", 20, 2 * 20), ("user-packet-rate", 20, 20),
+                                ("bandwidth", 560, 2 * 20), ("user-bandwidth", 560, 20)):
+        with turn_server(programs, "-o", f"{setting}={rate}") as server, Client(server) as first, \
+                Client(server) as second, Peer() as peer:
+            for client in (first, second):
+                client.allocate()
+                client.bind(0x4000, peer.address)
+            began = time.monotonic()
+            for client in (first, second):
+                for _ in range(200):
+                    client.send_on(0x4000, b"")
+            heard = relayed_of(400, server, peer)
+            took = time.monotonic() - began
+            check(most <= heard <= most + 40 * took + 2, f"{setting}: {heard} in {took:.1f} s")
+            ended(server)
 
 
 def workers_killed(programs):
@@ -667,8 +747,8 @@ def workers_killed(programs):
 
 def connections(programs):
     """A connection with an allocation lasts as long as that, whatever the time-outs and however full the
-    table; when it is closed its socket is too, and what its 5-tuple was isn't another's."""
-    options = ["-t", "-o", "idle-timeout=1", "-o", "max-age=2", "-o", "max-connections=2"]
+    table; when it is closed its relay ends at once, and the next connection of its 5-tuple has nothing of it."""
+    options = ["-t", "-o", "idle-timeout=3", "-o", "max-age=4", "-o", "max-connections=2"]
     with turn_server(programs, *options) as server, Peer() as peer:
         before = server.sockets()
         with Client(server, stream=True) as client, Client(server, stream=True) as idle:
@@ -687,11 +767,9 @@ def connections(programs):
             port = client.socket.getsockname()[1]
             client.socket.setsockopt(socket.SOL_SOCKET, socket.SO_LINGER, struct.pack("ii", 1, 0))
         wait_until(lambda: server.sockets() == before, f"sockets are left: {server.sockets()}")
+        wait_until(lambda: server.counts()["turn_ended"] == 2, "the relay of a closed connection lasts")
         with Client(server, stream=True, port=port) as again:
-            again.socket.send(REQUEST + bytes(12))
-            check(is_closed(again.socket), "the 5-tuple of an allocation is taken over")
-        with Client(server, stream=True) as client:
-            client.allocate()
+            exchange(again, peer, again.allocate(), b"anew")
         ended(server)
 
 
@@ -717,6 +795,45 @@ def unread(programs):
         ended(server)
 
 
+def late_readers(programs):
+    """A client that reads late gets each response to the requests that it sent meanwhile, also if the data of
+    a peer has taken all room before, and it sends many."""
+    with turn_server(programs, "-t") as server, Peer() as peer, Client(server, stream=True) as late:
+        relayed = late.allocate()
+        late.bind(0x4001, peer.address)
+        for requests in (60, 1000):
+            wait_until(lambda: is_full(server, peer, relayed), "there is room for data")
+            numbers = [secrets.token_bytes(12) for _ in range(requests)]
+            late.socket.sendall(b"".join(late.request(REFRESH, number=it) for it in numbers))
+            time.sleep(0.3)
+            heard = []
+            while len(heard) < requests and (message := late.receive()) is not None:
+                if message[0] < 0x40:
+                    heard.append(message[8:20])
+            check(heard == numbers, f"{requests - len(heard)} of {requests} responses are lost")
+            late.refresh()  # (what data is left comes before its response)
+        exchange(late, peer, relayed, b"data")
+        ended(server)
+
+
+def is_full(server, peer, relayed):
+    """Whether nothing of a peer's data, twice in turn, has room for a client that doesn't read."""
+    unread_of(server, peer, relayed, [20000] * 4)
+    return all(unread_of(server, peer, relayed, [1000] * 40) == 40 for _ in range(2))
+
+
+def unread_of(server, peer, relayed, sizes):
+    """How many of a peer's datagrams have no room."""
+    def counts():
+        counted = server.counts(signal.SIGUSR1)
+        return counted["turn_to_client"], counted["turn_unread"]
+    taken, dropped = counts()
+    for size in sizes:
+        peer.socket.sendto(bytes(size), relayed)
+    wait_until(lambda: counts()[0] == taken + len(sizes), "data of a peer is lost before")
+    return counts()[1] - dropped
+
+
 def rates(programs):
     """The limit of answers is for those who aren't authenticated: data and signed requests pass."""
     with turn_server(programs, "-o", "rate=2", "-o", "slip=0") as server, Client(server) as client, \
@@ -725,10 +842,9 @@ def rates(programs):
         for _ in range(50):
             client.socket.send(REQUEST + bytes(12))
             client.socket.send(client.request(ALLOCATE, UDP, sign=False))
-        wait_until(lambda: server.counts()["udp_limited"] > 90, "nothing is limited")
+        wait_until(lambda: server.counts(signal.SIGUSR1)["udp_limited"] > 90, "nothing is limited")
         client.kept = b""
-        while client.receive(0.2):
-            pass
+        client.refresh()  # (what else is answered comes before its response)
         for _ in range(30):
             exchange(client, peer, relayed, b"data")
         ended(server)
@@ -737,7 +853,8 @@ def rates(programs):
 def outside(programs):
     """Clients of a server that has a NAT before it learn the NAT's address. A socket for all addresses answers from the one that
     was asked."""
-    options = ["-o", "relay-address=127.0.0.3", "-o", "external-address=198.51.100.9"]
+    options = ["-o", "relay-address=127.0.0.3", "-o", "external-address=198.51.100.9",
+               "-o", "allow=198.51.100.0/24"]
     with turn_server(programs, *options) as server, Client(server) as client, Peer() as peer:
         address, port = client.allocate()
         check(address == "198.51.100.9", f"clients learn {address}")
@@ -752,7 +869,7 @@ def outside(programs):
                 with Client(server, at=at, source=OTHER.get(at, "127.0.0.1"), stream=stream) as client:
                     relayed = client.allocate()
                     exchange(client, peer, relayed, b"data")
-                    client.bind(0x4005, (relayed[0], int(server.port)))
+                    client.bind(0x4005, (relayed[0], int(server.port)), wanted=403)
                     client.bind(0x4006, ("127.0.0.1", int(server.port)), wanted=403)
             ended(server)
 
@@ -764,24 +881,26 @@ def misused(programs):
         write(users, "user pass\n")
         right = ["realm=example.org", f"users={users}"]
         for status, given, told in [
-            (3, right[1:], "realm"), (3, right[:1], "users"), (3, [right[0], f"users={folder}/none"], "none"),
+            (78, right[1:], "realm"), (78, right[:1], "users"), (78, [right[0], f"users={folder}/none"], "none"),
             (3, [*right, "relay-address=192.0.2.1"], "192.0.2.1"),
-            (3, [*right, "external-address=2001:db8::1"], "external"),
-            (3, [*right, "relay-address=0.0.0.0"], "external"),
-            *((2, [it], "") for it in ("turn=2", "realm=", "ports=5-4", "ports=1", "allow=10.0.0.1/8", "deny=10/8",
-                                       "allow=10.0.0.0/33", "relay-address=host", "lifetime=1")),
-            (2, ["realm=a", "realm=b"], ""),
+            (78, [*right, "external-address=2001:db8::1"], "external"),
+            (78, [*right, "relay-address=0.0.0.0"], "external"),
+            *((64, [it], it) for it in ("turn=2", "realm=", "ports=5-4", "ports=1", "allow=10.0.0.1/8", "deny=10/8",
+                                        "allow=10.0.0.0/33", "relay-address=host", "lifetime=1", "deny=10.0.0.1:",
+                                        "deny=10.0.0.1:0", "deny=10.0.0.0/8:5-4", "allow=10.0.0.1:65536",
+                                        "deny=[::1]", "deny=[::1]80")),
+            (64, ["realm=a", "realm=b"], "realm=b"),
         ]:
             got, said = start_at(programs, "127.0.0.1", given)
             check(got == status and told in said, f"{given}: status {got}: {said}")
         got, said = start_at(programs, "0.0.0.0", right)
-        check(got == 3 and "relay-address" in said, f"status {got}: {said}")
+        check(got == 78 and "relay-address" in said, f"status {got}: {said}")
         with socket.socket(socket.AF_INET, socket.SOCK_DGRAM) as passed:
             passed.bind(("127.0.0.1", 0))
             command = [sys.executable, "-c", PASS_ON, "1", str(passed.fileno()), programs["server"], "-j", "2"]
             words = [word for it in ["turn=1", *right] for word in ("-o", it)]
             got, _, said = run([*command, *words], pass_fds=[passed.fileno()])
-            check(got == 3 and "-j 1" in said, f"processes that share a socket: status {got}: {said}")
+            check(got == 78 and "-j 1" in said, f"processes that share a socket: status {got}: {said}")
 
 
 def start_at(programs, address, settings):
@@ -792,7 +911,7 @@ def start_at(programs, address, settings):
 
 
 def own_client(programs):
-    """stun-turn-client allocates, sends, refreshes and deletes."""
+    """stun-turn-client allocates, sends by indications and on a channel, and deletes."""
     echoing = """
 import socket
 peer = socket.socket(socket.AF_INET, socket.SOCK_DGRAM)
@@ -805,20 +924,21 @@ while True:
             subprocess.Popen([sys.executable, "-c", echoing], stdout=subprocess.PIPE, text=True) as peer:
         try:
             port = int(peer.stdout.readline())
-            for stream in ([], ["-t"]):
-                words = ["-u", "user", *stream, "-p", f"127.0.0.9:{port}", "-r", "20",
-                         f"127.0.0.1:{server.port}"]
-                status, out, told = run([programs["turn_client"], *words], 3 * PATIENCE,
-                                        env={**os.environ, "STUN_PASSWORD": "pass"})
-                check(status == 0 and "hello" in out, f"status {status}: {out}{told}")
+            for how in ("-p", "-c"):
+                for stream in ([], ["-t"]):
+                    words = ["-u", "user", *stream, how, f"127.0.0.9:{port}", "-r", "20", f"127.0.0.1:{server.port}"]
+                    status, out, told = run([programs["turn_client"], *words], 3 * PATIENCE,
+                                            env={**os.environ, "STUN_PASSWORD": "pass"})
+                    check(status == 0 and "hello" in out, f"status {status}: {out}{told}")
         finally:
             peer.kill()
-        wait_until(lambda: server.counts()["turn_ended"] == 2, "the allocations haven't ended")
+        wait_until(lambda: server.counts()["turn_ended"] == 4, "the allocations haven't ended")
         ended(server)
 
 
 def behind_tls(programs):
-    """Clients come by TLS, which the programs end whose configurations are here."""
+    """Clients come by TLS, which the programs end whose configurations are here, and learn their own
+    addresses."""
     tried = False
     for name, file in (("stunnel", "stunnel.conf"), ("haproxy", "haproxy.cfg")):
         if shutil.which(name) and shutil.which("openssl"):
@@ -830,7 +950,7 @@ def behind_tls(programs):
 
 def behind(programs, name, text):
     port = free_port(["127.0.0.1"])
-    with turn_server(programs, "-t") as server, Peer() as peer:
+    with turn_server(programs, "-t", "-o", "proxy=127.0.0.1") as server, Peer() as peer:
         cert, key, both = (server.folder / it for it in ("cert.pem", "key.pem", "both.pem"))
         words = ["openssl", "req", "-x509", "-newkey", "rsa:2048", "-nodes", "-days", "2", "-subj", "/CN=localhost"]
         status, _, told = run([*words, "-keyout", str(key), "-out", str(cert)], PATIENCE)
@@ -847,16 +967,37 @@ def behind(programs, name, text):
         try:
             wait_until(lambda: can_connect(port), f"{name} doesn't listen")
             trusting = ssl.create_default_context(cafile=str(cert))
-            with Client(server, stream=True) as client:
+            with Client(server, stream=True, source="127.0.0.7") as client:
                 client.socket.close()
-                plain = socket.create_connection(("127.0.0.1", int(port)), PATIENCE)
+                plain = socket.create_connection(("127.0.0.1", int(port)), PATIENCE, ("127.0.0.5", 0))
+                plain_address = plain.getsockname()
                 client.socket = trusting.wrap_socket(plain, server_hostname="localhost")
+                own = client.ask_with(REQUEST + secrets.token_bytes(12)).address(MAPPED)
+                check(own == plain_address, f"through {name} a client at {plain_address} learns {own}")
                 exchange(client, peer, client.allocate(), b"data")
                 client.refresh(0)
+            if shutil.which("stunnel"):
+                own_client_by_tls(programs, server, port, cert)
         finally:
             front.kill()
             front.wait()
         ended(server)
+
+
+def own_client_by_tls(programs, server, port, cert):
+    """stun-turn-client, which has no TLS, goes by a stunnel beside it."""
+    near, file = free_port(["127.0.0.1"]), server.folder / "near.conf"
+    file.write_text(f"foreground = yes\npid =\n[turns]\nclient = yes\naccept = 127.0.0.1:{near}\n"
+                    f"connect = 127.0.0.1:{port}\nverifyChain = yes\nCAfile = {cert}\n")
+    words = [programs["turn_client"], "-u", "user", "-t", "-c", "127.0.0.9:9", f"127.0.0.1:{near}"]
+    with subprocess.Popen(["stunnel", str(file)], stdout=subprocess.DEVNULL, stderr=subprocess.DEVNULL) as adding:
+        try:
+            wait_until(lambda: can_connect(near), "the client's stunnel doesn't listen")
+            status, out, told = run(words, 3 * PATIENCE, env={**os.environ, "STUN_PASSWORD": "pass"})
+            right = re.search(r"channel 0x4000 of 127\.0\.0\.9:9\nsent 5 bytes to .*\ndeleted\n$", out)
+            check(status == 0 and right, f"status {status}: {out}{told}")
+        finally:
+            adding.kill()
 
 
 def can_connect(port):

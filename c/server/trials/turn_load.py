@@ -3,6 +3,7 @@ server runs out of something. The call and the load are bench/relay_load.c."""
 import contextlib
 import hashlib
 import os
+import re
 import signal
 import socket
 import struct
@@ -47,34 +48,37 @@ def call(programs, server):
         counted = run.end()
         print("   the call:", counted["line"], flush=True)
         whole(counted)
-        check(counted["delays"][0] < 100_000, f"half of the call is late: {counted['line']}")
+        check(counted["delays"][0] < 1_000_000, f"half of the call is late: {counted['line']}")
         done(run, "release")
 
 
 def flooded(programs):
     """A flood of Allocate requests without credentials, with and without a limit of answers, costs a call
-    nothing; with it few of the requests are answered."""
+    nothing; with it few of the requests are answered: 100 at once, and 100 a second."""
     flood = ["-n", "50", "-m", "1000", "-w", "10", "-i", "3000", "-f", "127.0.1.3"]
-    for options, most in [((), 50_000), (("-o", "rate=100", "-o", "slip=0"), 2_000)]:
+    for options in ((), ("-o", "rate=100", "-o", "slip=0")):
         with turn_server(programs, *MANY, *options) as server:
             with call(programs, server), load(programs, server, *flood) as stranger:
                 counted = stranger.obey("flood")
                 print("   the flood:", counted["line"], flush=True)
-                check(counted["sent"] == 50_000, counted["line"])
-                check(0 < counted["answered"] <= most, counted["line"])
             counts = ended(server)
-            check(counts["turn_allocated"] == 20, str(counts))
-            check(options == () or counts["udp_limited"] > 40_000, str(counts))
+            took = float(re.search(r"([0-9.]+) s$", counted["line"])[1])
+            most = min(50_000, 100 + 100 * (took + 2)) if options else 50_000
+            check(counted["sent"] == 50_000 and 0 < counted["answered"] <= most, counted["line"])
+            check(counts["turn_allocated"] == 20 and counts["udp_limited"] >= 50_000 - most, str(counts))
+            check(counts["udp_dropped"] == 0, f"the flood doesn't wait: {counts}")
 
 
 def read_again(programs):
     """A call loses nothing while the users are read again and again, 20,000 of them. Who is in the file no
-    more is refused, and keeps what is there."""
+    more is refused, and has no allocation."""
     others = "".join(f"user{i} md5:{i:032x}\n" for i in range(20_000))
     with turn_server(programs, *MANY, users="user pass\nleaves pass\n" + others) as server:
         with Client(server, user="leaves") as client, Peer() as peer:
             relayed = client.allocate()
             client.bind(0x4001, peer.address)
+            client.send_on(0x4001, b"data")
+            check(peer.hears() == (relayed, b"data"), "a user has no data relayed")
             with call(programs, server):
                 for turn in range(5):
                     reread(server, "users", f"user pass\nnew{turn} pass\n" + others)
@@ -82,8 +86,9 @@ def read_again(programs):
                         new.allocate()
                         new.refresh(0)
                     client.refresh(wanted=401)
-                    client.send_on(0x4001, b"data")
-                    check(peer.hears() == (relayed, b"data"), "an allocation goes with its user")
+                wait_until(lambda: server.counts(signal.SIGUSR1)["turn_ended"] == 6, "a user is outlasted")
+                client.send_on(0x4001, b"data")
+                check(peer.hears(0.3) is None, "who is no user has data relayed")
         ended(server)
 
 
@@ -110,6 +115,24 @@ def of_connections(server):
             if listening & {it[8:-1] for it in links if it.startswith("socket:")}:
                 return worker
     return None
+
+
+def connections_end(programs):
+    """Allocations end with their connections, with those too that the server ends since nonsense came: of
+    one address 900 clients, whose connections break off under way, leave room for 300 others at once."""
+    with many_files(), turn_server(programs, "-t", "-o", "user-allocations=1000") as server:
+        for turn in range(3):
+            for clients in (900, 300):
+                with load(programs, server, "-n", str(clients), "-m", "10", "-t", "-c") as run:
+                    done(run, "allocate")
+                    whole_of(run.obey("relay"), 10 * clients)
+        wait_until(lambda: server.counts()["turn_ended"] == 3600, "allocations are left")
+        with Client(server, stream=True) as client:
+            client.allocate()
+            client.socket.send(b"\xffnonsense")
+            check(client.socket.recv(1) == b"", "nonsense goes on")
+            check(server.counts()["turn_ended"] == 3601, "its allocation lasts")
+        ended(server)
 
 
 def crowded_table(programs):
@@ -223,7 +246,7 @@ def own_memory(server):
 def held(programs):
     """As many allocations as there may be are held over refreshes, all are used, and what they take of memory
     is used again by others after them."""
-    options = ["-o", "allocations=4000", "-o", "user-allocations=4000", "-o", "ports=10000-65535"]
+    options = ["-o", "allocations=4000", "-o", "user-allocations=4000", "-o", "ports=32000-65535"]
     with many_files(), turn_server(programs, *options) as server:
         sizes = []
         for _ in range(4):

@@ -10,7 +10,8 @@ import subprocess
 import types
 
 from harness import free_port
-from hosts import SERVER
+from hosts import NETWORKS, SERVER
+from operators import HERE
 from steps import REQUEST, Skipped, TOP, check, wait_until
 from turn import ended, limited_name, turn_server
 
@@ -26,6 +27,8 @@ class Settings:
     timed: bool = False  # credentials are valid for a time
     old_channels: bool = False
     channel_permits: bool = False
+    nonce_seconds: int = 0  # that a nonce is valid; 0: as long as the server likes
+    port: str = ""  # that of a server before this one; otherwise any
 
     def credentials(self):
         """A name and a password."""
@@ -33,13 +36,14 @@ class Settings:
 
 
 def denied_prefixes():
-    """The prefixes that this server denies by default."""
+    """The prefixes that this server denies by default, but for those of the hosts."""
     found = []
     for kind, number, length in re.findall(r"v([46])!\((0x[0-9A-F_]+) / (\d+)\)", DEFAULTS.read_text()):
         address = ipaddress.IPv6Address if kind == "6" else ipaddress.IPv4Address
         found.append(ipaddress.ip_network((address(int(number, 16)), int(length))))
-    check(len(found) > 10, f"{DEFAULTS} has no list of prefixes")
-    return found
+    more = re.findall(r'^    "([0-9a-f.:]+/\d+)",', (HERE / "peers.c").read_text(), re.M)
+    check(len(found) > 10 and {*NETWORKS} < {*more}, f"{DEFAULTS} or peers.c has no list of prefixes")
+    return found + [ipaddress.ip_network(it) for it in more if it not in NETWORKS]
 
 
 def answers(address, port, kind):
@@ -60,7 +64,7 @@ def coturn(host, folder, settings):
     if not program:
         raise Skipped("it needs turnserver, of coturn")
     with host.inside():
-        port = free_port(SERVER)
+        port = settings.port or free_port(SERVER)
     words = [program, "-n", "--no-cli", "--no-tls", "--no-dtls", "--no-software-attribute", "--realm", REALM,
              "--listening-port", port, "--pidfile", folder / "turnserver.pid", "--log-file", "stdout",
              "--db", folder / "turnserver.db"]
@@ -68,6 +72,8 @@ def coturn(host, folder, settings):
         words += ["--listening-ip", address, "--relay-ip", address]
     # (a range from :: would have all of IPv4 in it)
     words += [f"--denied-peer-ip={it[1]}-{it[-1]}" for it in denied_prefixes()]
+    if settings.nonce_seconds:
+        words.append(f"--stale-nonce={settings.nonce_seconds}")
     if settings.timed:
         words += ["--use-auth-secret", "--static-auth-secret", SECRET]
     else:
@@ -91,10 +97,15 @@ def this_server(program, host, _, settings):
     """Starts this server. Yields something with its port."""
     options = ["-o", f"old-channels={int(settings.old_channels)}", "-o", "user-allocations=100",
                "-o", f"channel-permits={int(settings.channel_permits)}"]
+    if settings.nonce_seconds:
+        options += ["-o", f"nonce-lifetime={settings.nonce_seconds}"]
+    options += [word for it in NETWORKS for word in ("-o", f"allow={it}")]
     known = {"users": None, "secret": f"{SECRET}\n"} if settings.timed else {"users": f"{USER} {PASSWORD}\n"}
     with contextlib.ExitStack() as all_of:
         with host.inside():
-            server = all_of.enter_context(turn_server({"server": program}, "-t", *options, at=SERVER,
-                                                      allowing=False, **known))
+            at = [word for address in SERVER for word in (address, settings.port)] if settings.port else []
+            server = all_of.enter_context(turn_server({"server": program}, "-t", *options, *at,
+                                                      at=() if at else SERVER, allowing=False, **known))
+            server.port = settings.port or server.port
         yield server
         ended(server)

@@ -26,7 +26,7 @@ static const verb *const tables[] = {
     verbs_of_parse,  verbs_of_show,    verbs_of_validate, verbs_of_keys,
     verbs_of_values, verbs_of_write,   verbs_of_replies,  verbs_of_servers,
     verbs_of_streams, verbs_of_transactions, verbs_of_authentication, verbs_of_print,
-    verbs_of_turn,   verbs_of_turn_datagrams, verbs_of_responders,
+    verbs_of_turn,   verbs_of_turn_datagrams, verbs_of_responders, verbs_of_allocations,
 };
 
 /* ---- answers */
@@ -58,6 +58,8 @@ void answer_octets(const uint8_t *octets, size_t length) {
 void answer_space(void) {
     if (answer_length != 0) answer_text(" ");
 }
+
+size_t answer_count(void) { return answer_length; }
 
 void answer_or_nothing(void) {
     if (answer_length == 0) answer_text("-");

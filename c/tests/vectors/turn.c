@@ -43,22 +43,27 @@ static uint32_t lifetime_of(slice response) {
 
 /* Appends what a success response to an Allocate request says, and keeps whose the allocation is. */
 static void answer_allocated(turn_row *it, slice response) {
-    stun_types_address relayed =
-        turn_address(response.bytes, response.length, STUN_TYPES_ATTRIBUTE_XOR_RELAYED_ADDRESS);
+    const size_t ipv4 = turn_relayed(it, response, 4), ipv6 = turn_relayed(it, response, 6);
     stun_types_address mapped =
         turn_address(response.bytes, response.length, STUN_TYPES_ATTRIBUTE_XOR_MAPPED_ADDRESS);
+    uint16_t family;
     CHECK(turn_is_same_address(&mapped, &it->from->client));
-    CHECK(it->action->took == 0 || turn_is_same_address(&relayed, &it->action->peer));
+    CHECK(ipv4 != 0 || ipv6 != 0);
     it->owners[tuple] = user;
-    it->families[tuple] = relayed.family;
+    it->families[tuple] = ipv4 != 0 ? 4 : 6;
     it->filled_at[tuple] = 0;
-    answer_text("allocated:%zu:%lu", turn_socket_of(&relayed),
-                (unsigned long)lifetime_of(response));
+    answer_text("allocated:%zu", ipv4 != 0 ? ipv4 : ipv6);
+    if (ipv4 != 0 && ipv6 != 0) answer_text(",%zu", ipv6);
+    answer_text(":%lu", (unsigned long)lifetime_of(response));
+    for (family = 4; family <= 6; family += 2) {
+        const unsigned code = turn_missing(response, family);
+        if (code != 0) answer_text(":%u-%u", (unsigned)family, code);
+    }
 }
 
 static void answer_success(turn_row *it, slice response) {
     const uint16_t method = header_of(response).method;
-    CHECK(it->action->took == 0 || method == STUN_TYPES_METHOD_ALLOCATE);
+    CHECK((it->action->ipv4.took == 0 && it->action->ipv6.took == 0) || method == STUN_TYPES_METHOD_ALLOCATE);
     switch (method) {
     case STUN_TYPES_METHOD_ALLOCATE: answer_allocated(it, response); break;
     case STUN_TYPES_METHOD_REFRESH:
@@ -79,7 +84,7 @@ static void check_response(const turn_row *it) {
     stun_types_validated validated;
     CHECK(it->action->kind == STUN_TYPES_TURN_RESPONSE && is_response_to(&request, &header));
     CHECK(it->action->code == turn_code(response));
-    CHECK(it->action->took == 0 || it->action->code == 0);
+    CHECK((it->action->ipv4.took == 0 && it->action->ipv6.took == 0) || it->action->code == 0);
     ANSWERS(stun_types_validate(response.bytes, response.length,
                                 user == 0 ? &who->md5 : &who->sha256, &validated),
             OK_ANSWER);
@@ -124,6 +129,7 @@ static void add_wish(const char *wish) {
     uint8_t transport = code == STUN_TYPES_CODE_UNSUPPORTED_TRANSPORT_PROTOCOL ? 6 : 17;
     turn_add_first(&message, STUN_TYPES_ATTRIBUTE_REQUESTED_TRANSPORT, transport);
     if (code == 6) add_family(2);
+    if (code == 46) turn_add_first(&message, STUN_TYPES_ATTRIBUTE_ADDITIONAL_ADDRESS_FAMILY, 2);
     if (code == STUN_TYPES_CODE_BAD_REQUEST) {
         add_family(1);
         turn_add_first(&message, STUN_TYPES_ATTRIBUTE_ADDITIONAL_ADDRESS_FAMILY, 2);
@@ -197,7 +203,8 @@ static bool relay(turn_row *it) {
     if (!turn_ask(it, tuple, datagram, TURN_USERS, true)) return false;
     if (it->action->kind == STUN_TYPES_TURN_TO_PEER) answer_to_peer(it, datagram);
     else {
-        CHECK(it->action->kind == STUN_TYPES_TURN_NOTHING && it->action->took == 0);
+        CHECK(it->action->kind == STUN_TYPES_TURN_NOTHING);
+        CHECK(it->action->ipv4.took == 0 && it->action->ipv6.took == 0);
         answer_text("dropped");
     }
     return true;
@@ -206,10 +213,14 @@ static bool relay(turn_row *it) {
 static bool send_data(turn_row *it) {
     stun_types_address peer;
     slice data;
-    tuple = turn_tuple_of(call_word());
+    bool is_whole;
+    parts = call_word();
+    tuple = turn_tuple_of(next_part(&parts, ':'));
+    is_whole = strcmp(part_or(""), "dont-fragment") == 0;
     peer = turn_endpoint(call_word());
     data = call_octets();
     turn_begin(&message, STUN_TYPES_CLASS_INDICATION, STUN_TYPES_METHOD_SEND, 9);
+    if (is_whole) turn_add(&message, STUN_TYPES_ATTRIBUTE_DONT_FRAGMENT, "", 0);
     turn_add_peer(&message, &peer);
     turn_add(&message, STUN_TYPES_ATTRIBUTE_DATA, data.bytes, data.length);
     return relay(it);
@@ -242,11 +253,6 @@ static bool arrive(turn_row *it) {
     return true;
 }
 
-static bool poll_sockets(turn_row *it) {
-    answer_poll(it);
-    return true;
-}
-
 /* ---- rows */
 
 static const struct {
@@ -255,7 +261,7 @@ static const struct {
 } known_events[] = {
     {"allocate", allocate}, {"refresh", refresh}, {"permit", permit},
     {"bind", bind_channel}, {"unfit", unfit},     {"send", send_data},
-    {"channel", channel},   {"arrive", arrive},   {"poll", poll_sockets},
+    {"channel", channel},   {"arrive", arrive},
 };
 
 /* Appends the word for an event; false if no more events are to follow. */
@@ -265,10 +271,17 @@ static bool answer_event(turn_row *it, const char *name) {
         if (strcmp(known_events[at].name, name) == 0) {
             turn_fill(it);
             answer_space();
-            return known_events[at].does(it);
+            if (!known_events[at].does(it)) return false;
+            answer_closed(it);
+            return true;
         }
-    answer_unknown();
-    return false;
+    turn_fill(it);
+    if (!answer_ends(it, name)) {
+        answer_unknown();
+        return false;
+    }
+    answer_closed(it);
+    return true;
 }
 
 /* How many peers the requests of the events name, and how many of them bind a channel. */

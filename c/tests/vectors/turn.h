@@ -16,10 +16,14 @@ typedef struct {
     stun_types_turn *server;
     turn_nonces nonces;
     turn_user users[TURN_USERS];
-    bool has_ipv6, has_sockets;
+    bool has_ipv4, has_ipv6; /* whether it has sockets of the family */
     uint64_t now;
     uint64_t relays[TURN_SOCKETS]; /* of the socket with the number 1, 2 and so on */
+    stun_types_address addresses[TURN_SOCKETS];
     size_t sockets;
+    /* The sockets that the event ended, and how many. */
+    bool is_ended[TURN_SOCKETS + 1];
+    size_t ended;
     /* What every call is given. */
     stun_types_five_tuple *from;
     stun_types_turn_ready *ready;
@@ -74,8 +78,13 @@ void turn_fill(turn_row *it);
 slice turn_response(const turn_row *it);
 uint32_t turn_code(slice response);
 
-/* The number of the socket with a relayed address in a response. */
-size_t turn_socket_of(const stun_types_address *address);
+/* The number of the socket with a relayed address in a response; and the one of a family that a response
+   shows, 0 if it shows none. */
+size_t turn_socket_of(const turn_row *it, const stun_types_address *address);
+size_t turn_relayed(const turn_row *it, slice response, uint16_t family);
+
+/* The code of a response's ADDRESS-ERROR-CODE for a family, 4 or 6; 0 if it shows none. */
+unsigned turn_missing(slice response, uint16_t family);
 
 /* Appends the word for data to a peer: of the last action, for this datagram. */
 void answer_to_peer(const turn_row *it, slice datagram);
@@ -92,7 +101,11 @@ turn_arrived turn_arrive(turn_row *it);
 /* Appends the word for a Data indication that arrived. */
 void answer_data(const turn_arrived *arrived);
 
-/* Appends the word for the sockets that a poll reports. */
-void answer_poll(turn_row *it);
+/* Does an event that only ends relayed addresses, and appends that it ended none; false if the event is
+   another one. */
+bool answer_ends(turn_row *it, const char *name);
+
+/* Appends the word for the sockets that the event ended, if there are any. */
+void answer_closed(turn_row *it);
 
 #endif

@@ -100,26 +100,27 @@ static void part(const char *word) {
 static void answer_allocation(const turn_row *it, slice response) {
     slice value;
     stun_types_address address;
+    uint16_t family;
     if (find_value(response, STUN_TYPES_ATTRIBUTE_LIFETIME, &value)) {
         part("lifetime-");
         answer_text("%lu", (unsigned long)turn_number(value));
     }
-    if (find_value(response, STUN_TYPES_ATTRIBUTE_XOR_RELAYED_ADDRESS, &value)) {
-        address =
-            turn_address(response.bytes, response.length, STUN_TYPES_ATTRIBUTE_XOR_RELAYED_ADDRESS);
-        CHECK(it->action->took == 0 || turn_is_same_address(&address, &it->action->peer));
-        part(address.family == 4 ? "relayed4-" : "relayed6-");
-        answer_text("%zu", turn_socket_of(&address));
+    for (family = 4; family <= 6; family += 2) {
+        const size_t number = turn_relayed(it, response, family);
+        if (number == 0) continue;
+        part(family == 4 ? "relayed4-" : "relayed6-");
+        answer_text("%zu", number);
     }
     if (find_value(response, STUN_TYPES_ATTRIBUTE_XOR_MAPPED_ADDRESS, &value)) {
         address =
             turn_address(response.bytes, response.length, STUN_TYPES_ATTRIBUTE_XOR_MAPPED_ADDRESS);
         part(turn_is_same_address(&address, &it->from->client) ? "mapped" : "!!disagree mapped");
     }
-    if (find_value(response, STUN_TYPES_ATTRIBUTE_ADDRESS_ERROR_CODE, &value)) {
-        CHECK(value.length >= 4 && value.bytes[0] == 2);
-        part("family-");
-        answer_text("%u", value.length < 4 ? 0u : value.bytes[2] * 100u + value.bytes[3]);
+    for (family = 4; family <= 6; family += 2) {
+        const unsigned code = turn_missing(response, family);
+        if (code == 0) continue;
+        part(family == 4 ? "missing4-" : "missing6-");
+        answer_text("%u", code);
     }
 }
 
@@ -246,11 +247,14 @@ static void expect(turn_row *it) {
 /* Appends the word for an event; false if no more events are to follow. */
 static bool answer_event(turn_row *it, const char *name) {
     turn_fill(it);
-    answer_space();
-    if (strcmp(name, "from") == 0) return from_client(it);
-    if (strcmp(name, "arrive") == 0) from_peer(it);
-    else if (strcmp(name, "poll") == 0) answer_poll(it);
-    else answer_unknown();
+    if (strcmp(name, "from") == 0) {
+        answer_space();
+        if (!from_client(it)) return false;
+    } else if (strcmp(name, "arrive") == 0) {
+        answer_space();
+        from_peer(it);
+    } else if (!answer_ends(it, name)) answer_unknown();
+    answer_closed(it);
     return true;
 }
 

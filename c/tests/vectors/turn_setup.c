@@ -12,8 +12,8 @@
 enum { PERMISSIONS = 16, CHANNELS = 16, ROW_PERMISSIONS = 4, ROW_CHANNELS = 3 };
 enum { FILL_PEERS = PERMISSIONS - ROW_PERMISSIONS, FILL_CHANNELS = CHANNELS - ROW_CHANNELS };
 
-/* How many sockets are asked for by one poll. */
-enum { POLLED = 2 };
+/* How many sockets that ended are asked for at once. */
+enum { ENDED = 2 };
 
 static const struct {
     const char *name;
@@ -108,16 +108,17 @@ uint64_t turn_moment(char *word) {
 /* The settings of a SETUP, and which sockets there are. */
 static stun_types_turn_settings settings_of(turn_row *it, char *word, uint64_t window) {
     stun_types_turn_settings settings;
-    uint32_t *const numbers[] = {&settings.allocations, &settings.of_user,
-                                 &settings.greatest_lifetime};
+    uint32_t *const numbers[] = {&settings.limits.relays, &settings.limits.relays_per_user,
+                                 &settings.limits.greatest_lifetime};
     size_t at;
     memset(&settings, 0, sizeof settings);
+    settings.limits.ipv4 = settings.limits.ipv6 = 1;
     settings.window = window;
     settings.seed[0] = 1;
     settings.seed[1] = 2;
     settings.features =
         STUN_TYPES_FEATURE_PASSWORD_ALGORITHMS | STUN_TYPES_FEATURE_USERNAME_ANONYMITY;
-    it->has_ipv6 = it->has_sockets = true;
+    it->has_ipv4 = it->has_ipv6 = true;
     for (at = 0; at < COUNT(numbers); at++) {
         const char *part = next_part(&word, ':');
         if (part == NULL) answer_unknown();
@@ -125,10 +126,15 @@ static stun_types_turn_settings settings_of(turn_row *it, char *word, uint64_t w
     }
     while (word != NULL) {
         const char *part = next_part(&word, ':');
-        if (strcmp(part, "channel-permits") == 0) settings.channel_permits = 1;
-        else if (strcmp(part, "old-channels") == 0) settings.old_channels = 1;
-        else if (strcmp(part, "ipv4-only") == 0) it->has_ipv6 = false;
-        else if (strcmp(part, "no-sockets") == 0) it->has_sockets = false;
+        if (strcmp(part, "channel-permits") == 0) settings.limits.channel_permits = 1;
+        else if (strcmp(part, "old-channels") == 0) settings.limits.old_channels = 1;
+        else if (strcmp(part, "dont-fragment") == 0) settings.limits.dont_fragment = 1;
+        else if (strcmp(part, "icmp") == 0) settings.limits.icmp = 1;
+        else if (strcmp(part, "ipv4-only") == 0) settings.limits.ipv6 = 0;
+        else if (strcmp(part, "ipv6-only") == 0) settings.limits.ipv4 = 0;
+        else if (strcmp(part, "no-sockets") == 0) it->has_ipv4 = it->has_ipv6 = false;
+        else if (strcmp(part, "no-ipv4-sockets") == 0) it->has_ipv4 = false;
+        else if (strcmp(part, "no-ipv6-sockets") == 0) it->has_ipv6 = false;
         else answer_unknown();
     }
     return settings;
@@ -200,12 +206,10 @@ static stun_types_address socket_address(uint16_t family, size_t number) {
     return address;
 }
 
-size_t turn_socket_of(const stun_types_address *address) {
+size_t turn_socket_of(const turn_row *it, const stun_types_address *address) {
     size_t number;
-    for (number = 1; number <= TURN_SOCKETS; number++) {
-        stun_types_address one = socket_address(address->family, number);
-        if (turn_is_same_address(&one, address)) return number;
-    }
+    for (number = it->sockets; number > 0; number--)
+        if (turn_is_same_address(&it->addresses[number - 1], address)) return number;
     fail("a relayed address that no socket has");
     return 0;
 }
@@ -213,23 +217,24 @@ size_t turn_socket_of(const stun_types_address *address) {
 stun_types_turn_ready turn_ready(const turn_row *it, bool are_there) {
     stun_types_turn_ready ready;
     memset(&ready, 0, sizeof ready);
-    ready.ipv4 = 1;
-    ready.ipv6 = it->has_ipv6;
-    if (!are_there || !it->has_sockets) return ready;
-    ready.any_ipv4 = ready.even_ipv4 = socket_address(4, it->sockets + 1);
+    if (!are_there) return ready;
+    if (it->has_ipv4) ready.any_ipv4 = ready.even_ipv4 = socket_address(4, it->sockets + 1);
     if (it->has_ipv6) ready.any_ipv6 = ready.even_ipv6 = socket_address(6, it->sockets + 1);
     return ready;
 }
 
-/* Gives the socket that an allocation took its number. */
-static void take_socket(turn_row *it) {
-    const stun_types_address *address = &it->action->peer;
+/* Gives the socket that a request took its number, unless it took none. */
+static void take_socket(turn_row *it, const stun_types_turn_opened *opened) {
     size_t at;
+    CHECK(opened->took <= 1);
+    if (opened->took == 0) return;
     if (it->sockets == TURN_SOCKETS) abort();
     CHECK(it->action->kind == STUN_TYPES_TURN_RESPONSE && it->action->code == 0);
-    CHECK(turn_socket_of(address) == it->sockets + 1);
-    for (at = 0; at < it->sockets; at++) CHECK(it->relays[at] != it->action->relay);
-    it->relays[it->sockets++] = it->action->relay;
+    for (at = 0; at < it->sockets; at++) CHECK(it->relays[at] != opened->relay);
+    it->addresses[it->sockets] = opened->relayed;
+    it->relays[it->sockets++] = opened->relay;
+    CHECK(turn_is_same_address(&opened->relayed,
+                               opened->relayed.family == 4 ? &it->ready->any_ipv4 : &it->ready->any_ipv6));
 }
 
 /* The number of the socket that the server knows by this one. */
@@ -239,6 +244,25 @@ static size_t number_of(const turn_row *it, uint64_t relay) {
         if (it->relays[at] == relay) return at + 1;
     fail("a socket that no allocation took");
     return 0;
+}
+
+/* Keeps which sockets the last call ended: it says how many. */
+static void keep_ended(turn_row *it, size_t count) {
+    size_t first = 0, wrote, at;
+    do {
+        uint64_t *ended = (uint64_t *)(void *)room(ENDED * sizeof *ended);
+        wrote = stun_types_turn_ended(it->server, ended, ENDED, first);
+        CHECK(wrote == (count - first < ENDED ? count - first : ENDED));
+        for (at = 0; at < wrote && at < ENDED; at++) {
+            const size_t number = number_of(it, ended[at]);
+            CHECK(!it->is_ended[number]);
+            it->is_ended[number] = true;
+            it->ended++;
+        }
+        for (; at < ENDED; at++) CHECK(is_untouched(&ended[at], sizeof *ended));
+        first += wrote;
+    } while (wrote > 0);
+    CHECK(first == count);
 }
 
 /* ---- calls */
@@ -259,8 +283,9 @@ bool turn_ask(turn_row *it, size_t tuple, slice datagram, size_t user, bool has_
     call.action = it->action;
     if (!is_taken(turn_take(&call, it->now, datagram, user < TURN_USERS ? &it->users[user] : NULL)))
         return false;
-    CHECK(it->action->took <= 1);
-    if (it->action->took == 1) take_socket(it);
+    keep_ended(it, it->action->ended);
+    take_socket(it, &it->action->ipv4);
+    take_socket(it, &it->action->ipv6);
     return true;
 }
 
@@ -321,6 +346,47 @@ slice turn_response(const turn_row *it) {
     return response;
 }
 
+/* The attributes of a response. */
+static size_t attributes_of(slice response, stun_types_attribute *all, size_t most) {
+    const size_t count = stun_types_attributes(response.bytes, response.length, all, most);
+    CHECK(count <= most);
+    return count < most ? count : most;
+}
+
+enum { ATTRIBUTES = 32 };
+
+size_t turn_relayed(const turn_row *it, slice response, uint16_t family) {
+    stun_types_attribute all[ATTRIBUTES];
+    const size_t count = attributes_of(response, all, ATTRIBUTES);
+    size_t at, found = 0;
+    for (at = 0; at < count; at++) {
+        stun_types_address address;
+        const stun_types_turn_opened *opened = family == 4 ? &it->action->ipv4 : &it->action->ipv6;
+        if (all[at].type != STUN_TYPES_ATTRIBUTE_XOR_RELAYED_ADDRESS) continue;
+        ANSWERS(stun_types_read_xor_address(response.bytes, response.length, &all[at], &address), OK_ANSWER);
+        if (address.family != family) continue;
+        CHECK(found == 0 && (opened->took == 0 || turn_is_same_address(&address, &opened->relayed)));
+        found = turn_socket_of(it, &address);
+    }
+    return found;
+}
+
+unsigned turn_missing(slice response, uint16_t family) {
+    stun_types_attribute all[ATTRIBUTES];
+    const size_t count = attributes_of(response, all, ATTRIBUTES);
+    unsigned code = 0;
+    size_t at;
+    for (at = 0; at < count; at++) {
+        const uint8_t *value = response.bytes + all[at].value_at;
+        if (all[at].type != STUN_TYPES_ATTRIBUTE_ADDRESS_ERROR_CODE) continue;
+        CHECK(all[at].length >= 4 && (value[0] == 1 || value[0] == 2));
+        if (all[at].length < 4 || value[0] != (family == 4 ? 1 : 2)) continue;
+        CHECK(code == 0);
+        code = value[2] * 100u + value[3];
+    }
+    return code;
+}
+
 uint32_t turn_code(slice response) {
     stun_types_attribute attribute;
     uint16_t code = 0;
@@ -352,7 +418,7 @@ static void answer_data_of(const stun_types_address *peer, slice data) {
 void answer_to_peer(const turn_row *it, slice datagram) {
     const stun_types_turn_action *action = it->action;
     slice data;
-    CHECK(action->took == 0 && action->code == 0);
+    CHECK(action->ipv4.took == 0 && action->ipv6.took == 0 && action->code == 0);
     CHECK(action->at <= datagram.length && action->length <= datagram.length - action->at);
     if (action->length > greatest_datagram(&action->peer)) {
         answer_text("dropped");
@@ -362,6 +428,7 @@ void answer_to_peer(const turn_row *it, slice datagram) {
     data.length = action->length;
     answer_text("to-peer:%zu", number_of(it, action->relay));
     answer_data_of(&action->peer, data);
+    if (action->dont_fragment) answer_text(":dont-fragment");
 }
 
 /* The octets that go to the client: the end of the head, the data and zeros. */
@@ -394,6 +461,7 @@ turn_arrived turn_arrive(turn_row *it) {
     ANSWERS(turn_from_peer(it->server, it->now, relay, (const void *)peer_given.bytes, data.length,
                            (const void *)id_given.bytes, it->head, STUN_TYPES_TURN_HEAD, delivery),
             OK_ANSWER);
+    keep_ended(it, delivery->ended);
     arrived.delivery = *delivery;
     arrived.is_sent = delivery->sends != 0;
     arrived.octets = data;
@@ -418,25 +486,42 @@ void answer_data(const turn_arrived *arrived) {
     answer_data_of(&peer, data);
 }
 
-/* ---- polls */
+/* ---- ends */
 
-void answer_poll(turn_row *it) {
-    bool is_closed[TURN_SOCKETS + 1] = {false};
-    size_t count, number, all = 0;
-    do {
-        uint64_t *ended = (uint64_t *)(void *)room(POLLED * sizeof *ended);
-        size_t at;
-        count = stun_types_turn_poll(it->server, it->now, ended, POLLED);
-        CHECK(count <= POLLED);
-        for (at = 0; at < count && at < POLLED; at++) {
-            number = number_of(it, ended[at]);
-            CHECK(!is_closed[number]);
-            is_closed[number] = true;
-            all++;
+bool answer_ends(turn_row *it, const char *name) {
+    size_t user;
+    if (strcmp(name, "poll") == 0) keep_ended(it, stun_types_turn_poll(it->server, it->now));
+    else if (strcmp(name, "end") == 0) {
+        const uint64_t number = call_count();
+        const uint64_t relay = number >= 1 && number <= it->sockets ? it->relays[number - 1] : UINT64_MAX;
+        keep_ended(it, stun_types_turn_end(it->server, it->now, relay));
+    } else if (strcmp(name, "end-user") == 0) {
+        user = turn_user_of(call_word());
+        if (user == TURN_USERS) answer_unknown();
+        else {
+            const slice one = text(known_users[user].name), realm = text(turn_realm);
+            stun_types_hash *hash = NEW(stun_types_hash);
+            ANSWERS(stun_types_userhash(one.bytes, one.length, realm.bytes, realm.length, hash), OK_ANSWER);
+            keep_ended(it, stun_types_turn_end_user(it->server, it->now, hash));
         }
-        for (; at < POLLED; at++) CHECK(is_untouched(&ended[at], sizeof *ended));
-    } while (count == POLLED);
-    answer_text("closed:%s", all == 0 ? "-" : "");
-    for (number = 1; number <= TURN_SOCKETS; number++)
-        if (is_closed[number]) answer_text("%zu%s", number, --all == 0 ? "" : ",");
+    } else return false;
+    if (it->ended == 0) {
+        answer_space();
+        answer_text("closed:-");
+    }
+    return true;
+}
+
+void answer_closed(turn_row *it) {
+    size_t number;
+    const char *before = "closed:";
+    if (it->ended > 0) answer_space();
+    for (number = 1; number <= TURN_SOCKETS && it->ended > 0; number++)
+        if (it->is_ended[number]) {
+            answer_text("%s%zu", before, number);
+            before = ",";
+            it->is_ended[number] = false;
+            it->ended--;
+        }
+    CHECK(it->ended == 0);
 }

@@ -1,22 +1,14 @@
 //! Connectivity checks of ICE between two agents: a check, its answer, and error 487 if both have the
 //! same role (RFC 8445, sections 7.1, 7.2 and 7.3).
 
-use ice_attrs::{
-    CheckUsername, IceControlled, IceControlling, Priority, Role, RoleDecision, Ufrag,
-    UseCandidate, decide_role,
-};
-use std::alloc::{AllocError, Global};
+use ice_attrs::{Role, RoleDecision, Ufrag, decide_role};
+use ice_checks::{CheckResponse, Credentials, Judged, Session, Signature, judge, write_check};
+use ice_machine::{Check, Request, Role as ShownRole};
+use std::alloc::Global;
 use std::net::SocketAddr;
-use stun_authentication::{
-    Authentication, Logins, Policy, authenticate_short_term, refuse_short_term,
-};
-use stun_types::attribute::{
-    AttributeStaticType, AttributeType, ErrorCode, KNOWN, UnknownAttributes, Username,
-    XorMappedAddress,
-};
+use stun_endpoints::{Endpoint, Ip};
 use stun_types::message::{
-    BINDING, IntegrityAlgorithm, IntegrityKey, LongTermCredentials, Message, MessageClass,
-    MessageType, MessageWriteVec, StunParseError, StunWriteError, TransactionId, UnknownTypes,
+    IntegrityAlgorithm, IntegrityKey, Message, MessageWriteVec, StunWriteError, TransactionId,
 };
 use stun_types::prelude::*;
 
@@ -32,6 +24,22 @@ pub struct Agent<'a> {
     pub tiebreaker: u64,
 }
 
+/// The role in a check of an agent.
+fn shown(role: Role) -> ShownRole {
+    match role {
+        Role::Controlling => ShownRole::Controlling,
+        Role::Controlled => ShownRole::Controlled,
+    }
+}
+
+/// The role of the agent that sent a check.
+fn role_of(check: &Check) -> Role {
+    match check.role {
+        ShownRole::Controlling => Role::Controlling,
+        ShownRole::Controlled => Role::Controlled,
+    }
+}
+
 /// A check, which nominates its pair or doesn't.
 pub fn check(
     alloc: Global,
@@ -40,48 +48,35 @@ pub fn check(
     priority: u32,
     nominates: bool,
 ) -> Result<Vec<u8>, StunWriteError> {
-    let username = CheckUsername {
-        receiver: agent.peer.0,
-        sender: agent.own.0,
+    // (its base and its destination aren't written)
+    let to = Endpoint {
+        ip: Ip {
+            family: 1,
+            number: 0,
+        },
+        port: 0,
     };
-    let key = IntegrityKey::new(alloc, agent.peer.1.as_bytes(), None)?;
-    let mtype = MessageType::from_class_method(MessageClass::Request, BINDING);
-    let vector = MessageWriteVec::new(alloc);
-    let mut check = Message::builder(mtype, TransactionId::from(id), vector)?;
-    check.add_attribute(&username.to_attribute(alloc)?)?;
-    check.add_attribute(&Priority::new(priority))?;
-    if nominates {
-        check.add_attribute(&UseCandidate::new())?;
-    }
-    match agent.role {
-        Role::Controlling => check.add_attribute(&IceControlling::new(agent.tiebreaker))?,
-        Role::Controlled => check.add_attribute(&IceControlled::new(agent.tiebreaker))?,
-    }
-    check.add_message_integrity_with_key(&key, IntegrityAlgorithm::Sha1)?;
-    check.add_fingerprint()?;
+    let request = Request {
+        id,
+        base: 0,
+        to,
+        role: shown(agent.role),
+        tiebreaker: agent.tiebreaker,
+        nominates,
+        priority,
+        sent: 0,
+    };
+    let (own, (fragment, password)) = (agent.own.0, agent.peer);
+    let key = &IntegrityKey::new(alloc, password.as_bytes(), None)?;
+    let mut check = MessageWriteVec::new(alloc);
+    write_check(
+        &request,
+        own,
+        &Credentials { fragment, key },
+        None,
+        &mut check,
+    )?;
     Ok(check.finish())
-}
-
-/// The user of a check, if the first fragment of its username is the agent's own.
-fn user_of(
-    alloc: Global,
-    agent: &Agent<'_>,
-    check: &Message<'_>,
-) -> Result<Vec<LongTermCredentials>, StunWriteError> {
-    let mut users = Vec::new(alloc);
-    let Ok(username) = check.attribute::<Username>(alloc) else {
-        return Ok(users);
-    };
-    let Some(fragments) = CheckUsername::from_text(username.username()) else {
-        return Ok(users);
-    };
-    if fragments.receiver.text() == agent.own.0.text() {
-        let name = String::from_str(alloc, username.username())?;
-        let password = String::from_str(alloc, agent.own.1)?;
-        let user = LongTermCredentials::new(name, password);
-        users.push(user).map_err(AllocError::from)?;
-    }
-    Ok(users)
 }
 
 /// What a check asks for that gets a success response.
@@ -103,132 +98,102 @@ pub struct CheckAnswer {
     pub accepted: Option<CheckContents>,
 }
 
-/// The role that a check shows, and its tiebreaker. An error if it shows both roles, or no number of
-/// 64 bits for one.
-fn shown_role(alloc: Global, check: &Message<'_>) -> Result<Option<(Role, u64)>, StunParseError> {
-    let is_controlled = check.has_attribute(IceControlled::TYPE);
-    if check.has_attribute(IceControlling::TYPE) {
-        if is_controlled {
-            return Err(StunParseError::InvalidAttributeData);
-        }
-        let shown = check.attribute::<IceControlling>(alloc)?;
-        return Ok(Some((Role::Controlling, shown.value())));
-    }
-    if !is_controlled {
-        return Ok(None);
-    }
-    let shown = check.attribute::<IceControlled>(alloc)?;
-    Ok(Some((Role::Controlled, shown.value())))
-}
-
 /// Decides about the role that a check shows. The agent switches to the other role if it has to.
-fn decide(agent: &mut Agent<'_>, shown: Option<(Role, u64)>) -> RoleDecision {
-    let Some((role, contents)) = shown else {
-        return RoleDecision::Keep;
-    };
-    let decision = decide_role(agent.role, agent.tiebreaker, role, contents);
+fn decide(agent: &mut Agent<'_>, check: &Check) -> RoleDecision {
+    let decision = decide_role(
+        agent.role,
+        agent.tiebreaker,
+        role_of(check),
+        check.tiebreaker,
+    );
     if decision == RoleDecision::Switch {
         agent.role = agent.role.other();
     }
     decision
 }
 
-/// The types that a check shows, that must be understood and aren't.
-fn unknown_types(alloc: Global, check: &Message<'_>) -> Result<Vec<AttributeType>, StunWriteError> {
-    let known = [&KNOWN[..], &ice_attrs::KNOWN];
-    let mut unknown = Vec::new(alloc);
-    for atype in UnknownTypes::with_lists(check.as_bytes(), &known) {
-        unknown.push(atype).map_err(AllocError::from)?;
-    }
-    Ok(unknown)
+/// The bytes of a response.
+fn written(
+    alloc: Global,
+    id: u128,
+    response: &CheckResponse<'_>,
+    signature: Option<Signature<'_>>,
+) -> Result<Vec<u8>, StunWriteError> {
+    let mut write = MessageWriteVec::new(alloc);
+    response.write_into(TransactionId::from(id), signature, &mut write)?;
+    Ok(write.finish())
 }
 
-/// What a check asks for, or the code of the error response that it gets: 420 if it shows unknown types,
-/// 400 if it is malformed, 487 if both agents have the same role and the peer has to switch.
-fn judge(
+/// The answer to a check of the peer.
+fn answer_check(
     alloc: Global,
     agent: &mut Agent<'_>,
-    check: &Message<'_>,
-    unknown: &[AttributeType],
-) -> Result<CheckContents, u16> {
-    if !unknown.is_empty() {
-        return Err(ErrorCode::UNKNOWN_ATTRIBUTE);
+    check: &Check,
+    key: &IntegrityKey,
+    algorithm: IntegrityAlgorithm,
+) -> Result<CheckAnswer, StunWriteError> {
+    let signature = Some(Signature { key, algorithm });
+    if decide(agent, check) == RoleDecision::Refuse {
+        let response = written(alloc, check.id, &CheckResponse::RoleConflict, signature)?;
+        return Ok(CheckAnswer {
+            response,
+            accepted: None,
+        });
     }
-    let priority = check.attribute::<Priority>(alloc);
-    let (Ok(priority), Ok(shown)) = (priority, shown_role(alloc, check)) else {
-        return Err(ErrorCode::BAD_REQUEST);
-    };
-    if let Some(code) = decide(agent, shown).error_code() {
-        return Err(code);
-    }
-    Ok(CheckContents {
-        priority: priority.value(),
-        nominates: check.has_attribute(UseCandidate::TYPE),
+    let success = CheckResponse::Success { source: check.from };
+    Ok(CheckAnswer {
+        response: written(alloc, check.id, &success, signature)?,
+        accepted: Some(CheckContents {
+            priority: check.priority,
+            nominates: check.nominates,
+        }),
     })
 }
 
-/// Adds an error code with its reason, and the unknown types if there are some.
-fn add_error(
-    alloc: Global,
-    code: u16,
-    unknown: &[AttributeType],
-    reply: &mut MessageWriteVec,
-) -> Result<(), StunWriteError> {
-    let reason = ErrorCode::default_reason_for_code(code);
-    reply.add_attribute(&ErrorCode::new(alloc, code, reason)?)?;
-    if !unknown.is_empty() {
-        reply.add_attribute(&UnknownAttributes::new(alloc, unknown)?)?;
-    }
-    Ok(())
-}
-
 /// The answer to a check that came from `source`: a success response with that address, or an error
-/// response, 420 for types that must be understood and aren't, 400 without PRIORITY, with two roles or
-/// with a value of another length, 487 if the peer has to switch its role. `None` if the message gets no
-/// answer.
+/// response, 420 for types that must be understood and aren't, 400 without PRIORITY, without a role, with
+/// two roles or with a value of another length, 487 if the peer has to switch its role. `None` if the
+/// message gets no answer.
 pub fn answer(
     alloc: Global,
     agent: &mut Agent<'_>,
-    check: &Message<'_>,
+    message: &Message<'_>,
     source: SocketAddr,
 ) -> Result<Option<CheckAnswer>, StunWriteError> {
-    if !check.has_class(MessageClass::Request) || !check.has_method(BINDING) {
-        return Ok(None);
-    }
-    let users = user_of(alloc, agent, check)?;
-    let policy = Policy {
-        algorithm: None,
-        min_hmac_length: 32,
-        fingerprint: true,
+    // (an agent makes its keys once, and not for each datagram)
+    let own_key = IntegrityKey::new(alloc, agent.own.1.as_bytes(), None)?;
+    let peer_key = IntegrityKey::new(alloc, agent.peer.1.as_bytes(), None)?;
+    let own = Credentials {
+        fragment: agent.own.0,
+        key: &own_key,
     };
-    let vector = MessageWriteVec::new(alloc);
-    let user = match authenticate_short_term(alloc, check, policy, &Logins::new(&users))? {
-        Authentication::Accepted(user) => user,
-        Authentication::Refused(refusal) => {
-            return Ok(Some(CheckAnswer {
-                response: refuse_short_term(alloc, check, refusal, vector)?.finish(),
+    let peer = Some(Credentials {
+        fragment: agent.peer.0,
+        key: &peer_key,
+    });
+    let (session, no_checks): (_, &[Request]) = (Session { own, peer }, &[]);
+    let datagram = message.as_bytes();
+    match judge(&session, &no_checks, 0, Endpoint::from(source), datagram) {
+        Judged::Checks { check, algorithm } => {
+            Ok(Some(answer_check(alloc, agent, &check, &own_key, algorithm)?))
+        }
+        Judged::Refused {
+            id,
+            refusal,
+            signed_by,
+        } => {
+            let signature = match signed_by {
+                Some(algorithm) => Some(Signature {
+                    key: &own_key,
+                    algorithm,
+                }),
+                None => None,
+            };
+            Ok(Some(CheckAnswer {
+                response: written(alloc, id, &refusal.response(datagram), signature)?,
                 accepted: None,
-            }));
+            }))
         }
-        _ => return Ok(None),
-    };
-    let unknown = unknown_types(alloc, check)?;
-    let judged = judge(alloc, agent, check, &unknown);
-    let mut reply = match judged {
-        Ok(_) => {
-            let mut reply = Message::builder_success(check, vector)?;
-            reply.add_attribute(&XorMappedAddress::new(source, check.transaction_id()))?;
-            reply
-        }
-        Err(code) => {
-            let mut reply = Message::builder_error(check, vector)?;
-            add_error(alloc, code, &unknown, &mut reply)?;
-            reply
-        }
-    };
-    user.finish_reply(true, &mut reply)?;
-    Ok(Some(CheckAnswer {
-        response: reply.finish(),
-        accepted: judged.ok(),
-    }))
+        Judged::Arrives | Judged::Strays { .. } | Judged::Responds { .. } => Ok(None),
+    }
 }

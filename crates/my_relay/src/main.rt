@@ -18,7 +18,40 @@ use turn_peers::Peers;
 use turn_server::Access;
 use walk::{PASSWORD, SERVER, USER, Walk};
 
-/// The lines of the whole exchange.
+/// The only user.
+fn user(alloc: Global) -> Result<LongTermCredentials> {
+    let user = String::from_str(alloc, USER)?;
+    let password = String::from_str(alloc, PASSWORD)?;
+    Ok(LongTermCredentials::new(user, password))
+}
+
+/// How the server authenticates. A program draws the secret.
+fn access(alloc: Global) -> Result<Access> {
+    let secret = IntegrityKey::new(alloc, &[7; 32], None)?;
+    let features = SecurityFeatures {
+        password_algorithms: true,
+        username_anonymity: false,
+    };
+    let nonces = NonceMaker::new(secret, features, 600)?;
+    let realm = Realm::new(alloc, "example.org")?;
+    Ok(Access {
+        nonces,
+        realm,
+        policy: Policy::default(),
+        software: None,
+        alternate: None,
+    })
+}
+
+/// All steps of the walk.
+fn go(walk: &mut Walk<'_>) -> Result<()> {
+    let retry = walk.allocate()?;
+    walk.permit(&retry)?;
+    walk.bind(&retry)?;
+    walk.end(&retry)
+}
+
+/// The lines of the whole exchange. A program draws the seed.
 fn exchange(alloc: Global) -> Result<String> {
     let own: SocketAddr = SERVER.parse()?;
     let listening = [own];
@@ -27,27 +60,11 @@ fn exchange(alloc: Global) -> Result<String> {
         allowed: &[],
         listening: &listening,
     };
-    let user = String::from_str(alloc, USER)?;
-    let password = String::from_str(alloc, PASSWORD)?;
-    let users = [LongTermCredentials::new(user, password)];
-    // A program draws the secret and the seed.
-    let secret = IntegrityKey::new(alloc, &[7; 32], None)?;
-    let features = SecurityFeatures {
-        password_algorithms: true,
-        username_anonymity: false,
-    };
-    let access = Access {
-        nonces: NonceMaker::new(secret, features, 600)?,
-        realm: Realm::new(alloc, "example.org")?,
-        policy: Policy::default(),
-        software: None,
-    };
+    let users = [user(alloc)?];
+    let access = access(alloc)?;
     let relay = Relay::new(alloc, [1, 2], own, &access, &users, peers)?;
     let mut walk = Walk::begin(alloc, relay)?;
-    let retry = walk.allocate()?;
-    walk.permit(&retry)?;
-    walk.bind(&retry)?;
-    walk.end(&retry)?;
+    go(&mut walk)?;
     Ok(walk.lines)
 }
 

@@ -7,15 +7,12 @@ use std::net::SocketAddr;
 use stun_authentication::Logins;
 use stun_endpoints::{Endpoint, FiveTuple};
 use stun_types::message::{LongTermCredentials, StunWriteError, TransactionId};
+use turn_allocations::Limits;
 use turn_peers::Peers;
 use turn_server::{Access, Action, Opened, Ready, Site, Sockets, TurnServer};
-use turn_table::Limits;
 
 /// How many bytes a buffer has before the data of a peer: room for the longest head.
 pub const HEAD: usize = 48;
-
-/// How many allocations `Relay::poll` ends in a call.
-const ENDED: usize = 64;
 
 /// What the program sends.
 #[derive(Debug, Drop)]
@@ -41,6 +38,7 @@ pub struct Relay<'a, S: Drop> {
     peers: Peers<'a>,
     ready: Option<(SocketAddr, S)>,
     sockets: BTreeMap<u64, S>,
+    closed: usize,
 }
 
 impl<'a, S: Drop> Relay<'a, S> {
@@ -61,6 +59,7 @@ impl<'a, S: Drop> Relay<'a, S> {
             peers,
             ready: None,
             sockets: BTreeMap::new(alloc),
+            closed: 0,
         })
     }
 
@@ -80,7 +79,7 @@ impl<'a, S: Drop> Relay<'a, S> {
     }
 
     /// The socket that is ready, as the server takes it. It is offered for an even port too if it has
-    /// one.
+    /// one. No pair is: a request that reserves a port gets a 508.
     fn site(&self) -> Site<'a> {
         let any = self
             .ready
@@ -90,8 +89,17 @@ impl<'a, S: Drop> Relay<'a, S> {
         Site {
             access: self.access,
             sockets: Sockets {
-                ipv4: Some(Ready { any, even }),
-                ipv6: None,
+                ipv4: Ready {
+                    any,
+                    even,
+                    pair: None,
+                },
+                ipv6: Ready {
+                    any: None,
+                    even: None,
+                    pair: None,
+                },
+                token: 0,
             },
         }
     }
@@ -134,11 +142,12 @@ impl<'a, S: Drop> Relay<'a, S> {
             &self.peers,
             buffer,
         )?;
+        self.close();
         match action {
             Action::Dropped => Ok(Sending::Nothing),
             Action::Response(response) => {
                 // First the socket, since the allocation is there even if no response was written.
-                if let Some(opened) = response.opened {
+                if let Some(opened) = response.opened.ipv4 {
                     self.keep(opened)?;
                 }
                 let written = response.written?;
@@ -147,8 +156,13 @@ impl<'a, S: Drop> Relay<'a, S> {
                     None => Ok(Sending::Nothing),
                 }
             }
-            Action::ToPeer { relay, peer, data } => {
-                match (self.sockets.get(&relay), data.of(datagram)) {
+            Action::ToPeer {
+                number,
+                peer,
+                data,
+                ..
+            } => {
+                match (self.sockets.get(&number), data.of(datagram)) {
                     (Some(socket), Some(data)) => Ok(Sending::ToPeer {
                         socket,
                         peer: SocketAddr::from(peer),
@@ -174,9 +188,11 @@ impl<'a, S: Drop> Relay<'a, S> {
     ) -> Option<(SocketAddr, &'b [u8])> {
         let (before, after) = buffer.split_at_mut_checked(HEAD)?;
         let peer = Endpoint::from(peer);
-        let delivery = self
+        let delivered = self
             .server
-            .on_peer_datagram(now, number, peer, length, id, before)?;
+            .on_peer_datagram(now, number, peer, length, id, &self.peers, before);
+        self.close();
+        let delivery = delivered?;
         let end = length.checked_add(usize::from(delivery.padding))?;
         after.get_mut(length..end)?.fill(0);
         let start = HEAD.checked_sub(usize::from(delivery.head_length))?;
@@ -184,14 +200,22 @@ impl<'a, S: Drop> Relay<'a, S> {
         Some((SocketAddr::from(delivery.to.client), bytes))
     }
 
-    /// Closes the sockets of allocations that have ended, at most 64, by dropping them: call it once a
-    /// second. Returns how many.
-    pub fn poll(&mut self, now: u64) -> usize {
-        let mut ended = [0; ENDED];
-        let count = self.server.poll(now, &mut ended);
-        for number in ended.iter().take(count) {
-            let _closed = self.sockets.remove(number);
+    /// Closes the sockets that the server's last call ended, by dropping them.
+    fn close(&mut self) {
+        for number in self.server.ended() {
+            let closed = self.sockets.remove(number);
+            self.closed = self.closed.saturating_add(usize::from(closed.is_some()));
         }
-        count
+    }
+
+    /// How many sockets have been closed.
+    pub fn closed(&self) -> usize {
+        self.closed
+    }
+
+    /// Ends what has expired, and closes its sockets: call it once a second.
+    pub fn poll(&mut self, now: u64) {
+        self.server.poll(now);
+        self.close();
     }
 }

@@ -245,8 +245,8 @@ impl<'a> Walk<'a> {
     pub fn end(&mut self, retry: &Retry<'_>) -> Result<()> {
         let request = delete_request(self.alloc, 8, retry)?;
         self.ask(&request)?;
-        let closed = self.relay.poll(NOW);
-        let left = self.relay.sockets().len();
+        self.relay.poll(NOW);
+        let (closed, left) = (self.relay.closed(), self.relay.sockets().len());
         writeln!(self.lines, "closed: {closed}, left: {left}")?;
         Ok(())
     }

@@ -1,12 +1,12 @@
 //! Who a request says that it comes from.
 
-ghost use Rattle.std.specs.Prelude.{◌≡◌, ◌<◌, ◌^◌, length};
-ghost use Rattle.std.specs.Option.{option_map, option_map_or};
+ghost use Rattle.std.specs.Prelude.{◌≡◌};
+ghost use Rattle.std.specs.Option.{option_map};
 ghost use Rattle.stun_types.specs.Message.{message_bytes};
-ghost use Rattle.stun_authentication.specs.Identities.{value_of, identity_of, who};
+ghost use Rattle.stun_authentication.specs.Identities.{identity_of, who};
 
-use stun_types::attribute::{AttributeStaticType, AttributeType, Userhash, Username};
-use stun_types::data::Data;
+use crate::attributes::value_of;
+use stun_types::attribute::{AttributeStaticType, Userhash, Username};
 use stun_types::message::Message;
 
 /// The user that a request names: the value of its USERNAME or of its USERHASH, borrowed from the
@@ -31,18 +31,6 @@ pub enum Identity<'a> {
     /// The value of a USERHASH: the 32 bytes of the SHA-256 of `username:realm`, unless the client
     /// is broken (RFC 8489, section 14.4). `Userhash::compute` makes that of a user.
     Hash(&'a [u8]),
-}
-
-/// The value of the first attribute of a type that a message shows, borrowed from its bytes.
-pub(crate) fn value_of<'a>(message: &Message<'a>, atype: AttributeType) -> Option<&'a [u8]>
-    ensures value { value_of (message_bytes message.now) atype.0
-        ≡ option_map (λ value. value.now) result }
-    ensures short { option_map_or (λ value. length value.now) result 0 < 2 ^ 16 }
-{
-    match message.raw_attribute(atype)?.into_value() {
-        Data::Borrowed(value) => Some(value.take()),
-        Data::Owned(_) => unreachable!(),
-    }
 }
 
 /// Who a message says that it comes from: `None` if it shows neither USERNAME nor USERHASH, or

@@ -69,6 +69,8 @@
 
 mod algorithms;
 mod answer;
+#[doc(hidden)]
+pub mod attributes;
 mod base64;
 mod challenge;
 mod codes;

@@ -8,7 +8,8 @@ ghost use Rattle.stun_authentication.specs.Challenges.{retry_of};
 ghost use Rattle.stun_authentication.specs.Requests.{asked_identity, identity_attribute, algorithm_attributes, credentials, user_key, answering_attributes, login_steps, name_refusal, AnswersWith, AnswersFor};
 ghost use Rattle.stun_authentication.specs.Writing.{Lengthens, Finishes};
 
-use crate::writing::{add_bytes, add_copies, sign_and_print};
+use crate::attributes::add_bytes;
+use crate::writing::{add_copies, sign_and_print};
 use crate::{Challenge, Retry};
 use std::alloc::Global;
 use stun_keys::keys::key_of_texts;

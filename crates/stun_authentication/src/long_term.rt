@@ -9,8 +9,9 @@ ghost use Rattle.stun_authentication.specs.Lookups.{key_held, known};
 ghost use Rattle.stun_authentication.specs.LongTerm.{is_sent, chosen, reply_algorithm, lacks_credentials, has_two_names, shows_one_alone, shows_other_list, chooses_none_listed, by_key, needs_key, nonce_of, rows_of_message, IsAskedFor, long_term};
 
 use crate::algorithms::{BOTH, first_listed, is_encoding_of, sole_named};
+use crate::attributes::value_of;
 use crate::cookie::security_features;
-use crate::identity::{identity_of, value_of};
+use crate::identity::identity_of;
 use crate::{
     Accepted, Authentication, Identity, LongTermKeys, NonceState, Nonces, Policy, Refusal,
 };

@@ -1,37 +1,26 @@
 //! The error response to a request that is refused.
 
-ghost use Rattle.std.specs.Prelude.{◌≡◌, ◌≢◌, ◌∷◌, [], None, Some, IfOk, MatchResult};
+ghost use Rattle.std.specs.Prelude.{◌≡◌, ◌≢◌, [], None, Some, IfOk, MatchResult};
 ghost use Rattle.std.specs.Option.{option_map};
 ghost use Rattle.stun_base.specs.MessageTypes.{class_of};
 ghost use Rattle.stun_base.specs.declared.message_class.MessageClass.TheVariants.{Request};
-ghost use Rattle.stun_attributes.specs.ErrorCodes.{error_code, error_reason, IsError};
+ghost use Rattle.stun_attributes.specs.ErrorCodes.{IsError};
 ghost use Rattle.stun_grammar.specs.Adding.{Fits};
-ghost use Rattle.stun_grammar.specs.Attributes.{canonical};
-ghost use Rattle.stun_grammar.specs.AttributeTypes.{ERROR_CODE};
 ghost use Rattle.stun_grammar.specs.Headers.{type_field};
 ghost use Rattle.stun_types.specs.Message.{message_bytes};
-ghost use Rattle.stun_values.specs.ErrorValues.{error_value};
 ghost use Rattle.stun_authentication.specs.declared.answer.Refusal.TheVariants.{StaleNonce};
 ghost use Rattle.stun_authentication.specs.Answers.{refusal_code, refusal_reason};
 ghost use Rattle.stun_authentication.specs.Asking.{asked_in};
 ghost use Rattle.stun_authentication.specs.Refusing.{asked_attributes, carried, refusal_of, refusal_sizes};
 ghost use Rattle.stun_authentication.specs.Writing.{Lengthens, FailsFor, no_room};
 
-use crate::writing::{add_bytes, add_copies, add_one, add_print};
+use crate::attributes::{add_bytes, add_error};
+use crate::writing::{add_copies, add_print};
 use crate::{Challenge, Refusal};
 use std::alloc::Global;
 use stun_types::attribute::{AttributeStaticType, ErrorCode, Fingerprint, PasswordAlgorithms};
 use stun_types::message::{Message, StunWriteError};
 use stun_types::prelude::*;
-
-/// Adds an ERROR-CODE.
-fn add_error<B: MessageWrite>(attribute: &ErrorCode, write: &mut B) -> Result<(), StunWriteError>
-    ensures { Lengthens result (B.state write.old) (B.state write.new)
-        (canonical ERROR_CODE
-        (error_value (error_code attribute.now) (error_reason attribute.now)) ∷ []) }
-{
-    add_one(attribute, write)
-}
 
 /// Adds what a response asks for: REALM and NONCE, and PASSWORD-ALGORITHMS if there is a list.
 fn add_asked<B: MessageWrite>(

@@ -8,9 +8,9 @@ ghost use Rattle.stun_authentication.specs.Challenges.{retry_of, is_bid_down, te
 
 use crate::Challenge;
 use crate::algorithms::{first_listed, numbered};
+use crate::attributes::value_of;
 use crate::codes::{is_challenge, response_code};
 use crate::cookie::security_features;
-use crate::identity::value_of;
 use std::alloc::{AllocError, Global};
 use stun_types::attribute::{
     AttributeStaticType, AttributeType, ErrorCode, Nonce, PasswordAlgorithmValue,

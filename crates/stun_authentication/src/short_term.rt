@@ -9,7 +9,7 @@ ghost use Rattle.stun_authentication.specs.Lookups.{key_held};
 ghost use Rattle.stun_authentication.specs.ShortTerm.{by_key, needs_key, short_term};
 
 use crate::answer::rejected;
-use crate::identity::value_of;
+use crate::attributes::value_of;
 use crate::{Accepted, Authentication, Identity, Policy, Refusal, ShortTermKeys};
 use std::alloc::{AllocError, Global};
 use stun_types::attribute::{AttributeStaticType, Username};

@@ -1,44 +1,18 @@
-//! Adding attributes to a message, and its end: the integrity attribute and the FINGERPRINT.
+//! REALM and NONCE, and the end of a message: the integrity attribute and the FINGERPRINT.
 
-ghost use Rattle.std.specs.Prelude.{◌≡◌, ◌≤◌, ◌<◌, ◌^◌, ◌∷◌, [], length};
+ghost use Rattle.std.specs.Prelude.{◌∷◌, []};
 ghost use Rattle.stun_grammar.specs.Attributes.{canonical};
-ghost use Rattle.stun_grammar.specs.AttributeTypes.{IsOrdinary, REALM, NONCE};
+ghost use Rattle.stun_grammar.specs.AttributeTypes.{REALM, NONCE};
 ghost use Rattle.stun_grammar.specs.Steps.{sign};
 ghost use Rattle.stun_keys.specs.Keys.{key_bytes};
 ghost use Rattle.stun_authentication.specs.Asking.{asked_in};
 ghost use Rattle.stun_authentication.specs.Writing.{Lengthens, Finishes, finished, signed, print_steps};
 
 use crate::Challenge;
-use stun_types::attribute::{AttributeStaticType, AttributeType, Nonce, Realm};
+use crate::attributes::add_bytes;
+use stun_types::attribute::{AttributeStaticType, Nonce, Realm};
 use stun_types::message::{IntegrityAlgorithm, IntegrityKey, StunWriteError};
 use stun_types::prelude::*;
-
-/// Adds an attribute.
-pub(crate) fn add_one<B: MessageWrite>(
-    attribute: &dyn AttributeWrite,
-    write: &mut B,
-) -> Result<(), StunWriteError>
-    requires { IsOrdinary (atype attribute.now) }
-    ensures { Lengthens result (B.state write.old) (B.state write.new)
-        (canonical (atype attribute.now) (value attribute.now) ∷ []) }
-{
-    write.add_attribute(attribute)
-}
-
-/// Adds an attribute of an ordinary type, by its type and its value.
-pub(crate) fn add_bytes<B: MessageWrite>(
-    atype: AttributeType,
-    value: &[u8],
-    write: &mut B,
-) -> Result<(), StunWriteError>
-    requires ordinary { IsOrdinary atype.0 }
-    requires number { atype.0 < 2 ^ 16 }
-    requires short { length value.now ≤ 65535 }
-    ensures { Lengthens result (B.state write.old) (B.state write.new)
-        (canonical atype.0 value.now ∷ []) }
-{
-    write.add_ordinary_value(atype, value)
-}
 
 /// Adds REALM and NONCE, which a response and the next request have alike.
 pub(crate) fn add_copies<B: MessageWrite>(

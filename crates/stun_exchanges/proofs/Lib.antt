@@ -1,10 +1,10 @@
-mod LoginsWritableLemmas
-mod EndedLemmas
-mod ProofLemmas
-mod ShortTermLemmas
+pub mod LoginsWritableLemmas
+pub mod EndedLemmas
+pub mod ProofLemmas
+pub mod ShortTermLemmas
 mod ListsLemmas
 mod LongTermLemmas
-mod TakenLemmas
+pub mod TakenLemmas
 mod ChallengeLemmas
 mod RetriedLemmas
 mod ExampleLemmas

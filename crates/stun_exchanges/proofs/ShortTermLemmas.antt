@@ -161,7 +161,7 @@ is_request fingerprint sent counts a kind id before name key own named room whic
     not_user Sha1 = refl
     not_user Sha256 = refl
 
-rows : (policy : Policy) (keys : List ℕ → Option UserKey) (d name : List ℕ) (key : UserKey) (a : IntegrityAlgorithm) → is_taken policy d ≡ true → is_response (class_of (type_field d)) ≡ false → is_signed policy d ≡ true → value_of d USERNAME ≡ Some name → keys name ≡ Some key
+pub rows : (policy : Policy) (keys : List ℕ → Option UserKey) (d name : List ℕ) (key : UserKey) (a : IntegrityAlgorithm) → is_taken policy d ≡ true → is_response (class_of (type_field d)) ≡ false → is_signed policy d ≡ true → value_of d USERNAME ≡ Some name → keys name ≡ Some key
     → is_signed_for policy key.made_for d ≡ true → proof_of policy key d ≡ Some a → short_term policy keys d ≡ accept (by_name name) key a a
 rows policy keys d name key a taken response shows user known signs right =
     let there : not (is_signed policy d && is_some (value_of d USERNAME)) ≡ false =

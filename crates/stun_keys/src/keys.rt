@@ -19,6 +19,6 @@ pub use credentials::{MessageIntegrityCredentials, key_of_credentials};
 pub use integrity_key::IntegrityKey;
 pub use long_term::LongTermCredentials;
 pub use long_term_key::{LongTermKeyCredentials, key_of_texts};
-pub use making::{key_of_bytes, prepare_key};
+pub use making::{copy_key, key_of_bytes, prepare_key};
 pub use shared::share_key;
 pub use short_term::ShortTermCredentials;

@@ -33,7 +33,8 @@ use Rattle.stun_transactions.specs.declared.received.Outcome.TheVariants.{NotFor
 use Rattle.stun_transactions.specs.declared.response_policy.ResponsePolicy.{ResponsePolicy}
 use Rattle.stun_transactions.specs.Guards.{guard_fault, mechanism_fault, proof_of, matched_by, signed_by, is_signed, have_common, signs_by, validated, is_unsigned_bad_request}
 use Rattle.stun_transactions.specs.Outcomes.{is_open}
-use Rattle.stun_transactions.specs.Receiving.{is_answer, received_outcome, claim_of, discarded, content, content_by_class}
+use Rattle.stun_transactions.specs.Parts.{pending}
+use Rattle.stun_transactions.specs.Receiving.{is_answer, judged, received_outcome, claim_of, discarded, content, content_by_class}
 use Rattle.stun_transactions.specs.Responses.{first_unknown}
 use Rattle.stun_transactions.specs.Taking.{is_taken, proof_in, IsAuthenticBy, IsProved, IsFit, IsFitBy, IsRightResponse}
 use Rattle.stun_transactions.specs.Usages.{lacks_fingerprint}
@@ -147,43 +148,53 @@ by_types : (proof : Option IntegrityAlgorithm) (beyond : Option AttributeType) (
 by_types proof None class d taken = by_class proof class d taken
 by_types proof (Some t) class d taken = absurd cc
 
--- what is taken parses, answers, and isn't kept out
-record Passed (fault : Option StunParseError) (answers : Bool) (kept : Option Discard) (reported is : Outcome) : Type 0 where
-  parses : fault ≡ None
+-- what is taken answers, and isn't kept out
+record Passed (answers : Bool) (kept : Option Discard) (reported is : Outcome) : Type 0 where
   right : answers ≡ true
   kept_in : kept ≡ None
   is_reported : is ≡ reported
 
-passed : (ongoing : Bool) (fault : Option StunParseError) (answers : Bool) (kept : Option Discard) (transport : TransportType) (claim : Claim) (reported : Outcome)
-    → is_taken (if ongoing && not (is_some fault) then (if answers then option_map_or (discarded transport claim) kept reported else NotForThis) else NotForThis) ≡ true
-    → Passed fault answers kept reported (if ongoing && not (is_some fault) then (if answers then option_map_or (discarded transport claim) kept reported else NotForThis) else NotForThis)
-passed true None true None transport claim reported taken = record { parses = refl; right = refl; kept_in = refl; is_reported = refl }
-passed true None true (Some NotAuthentic) Udp claim reported taken = absurd cc
-passed true None true (Some NotAuthentic) Tcp claim reported taken = absurd cc
-passed true None true (Some OtherAlgorithm) Udp claim reported taken = absurd cc
-passed true None true (Some OtherAlgorithm) Tcp claim reported taken = absurd cc
-passed true None true (Some BidDown) Udp claim reported taken = absurd cc
-passed true None true (Some BidDown) Tcp claim reported taken = absurd cc
-passed true None true (Some UnsignedBadRequest) Udp claim reported taken = absurd cc
-passed true None true (Some UnsignedBadRequest) Tcp claim reported taken = absurd cc
-passed true None true (Some NoFingerprint) Udp claim reported taken = absurd cc
-passed true None true (Some NoFingerprint) Tcp claim reported taken = absurd cc
-passed true None false kept transport claim reported taken = absurd cc
-passed true (Some e) answers kept transport claim reported taken = absurd cc
-passed false fault answers kept transport claim reported taken = absurd cc
+passed : (answers : Bool) (kept : Option Discard) (transport : TransportType) (claim : Claim) (reported : Outcome) → is_taken (if answers then option_map_or (discarded transport claim) kept reported else NotForThis) ≡ true
+    → Passed answers kept reported (if answers then option_map_or (discarded transport claim) kept reported else NotForThis)
+passed true None transport claim reported taken = record { right = refl; kept_in = refl; is_reported = refl }
+passed true (Some NotAuthentic) Udp claim reported taken = absurd cc
+passed true (Some NotAuthentic) Tcp claim reported taken = absurd cc
+passed true (Some OtherAlgorithm) Udp claim reported taken = absurd cc
+passed true (Some OtherAlgorithm) Tcp claim reported taken = absurd cc
+passed true (Some BidDown) Udp claim reported taken = absurd cc
+passed true (Some BidDown) Tcp claim reported taken = absurd cc
+passed true (Some UnsignedBadRequest) Udp claim reported taken = absurd cc
+passed true (Some UnsignedBadRequest) Tcp claim reported taken = absurd cc
+passed true (Some NoFingerprint) Udp claim reported taken = absurd cc
+passed true (Some NoFingerprint) Tcp claim reported taken = absurd cc
+passed false kept transport claim reported taken = absurd cc
+
+-- a message that a pending request takes
+pub judged_right : (parts : TransactionParts) (key : Option IntegrityKey) (understood : List AttributeType) (d : List ℕ) → IsBytes d → parse_fault d ≡ None → is_taken (judged (pending parts) key understood d) ≡ true
+    → IsRightResponse parts key d (proof_in (judged (pending parts) key understood d))
+judged_right parts key understood d bytes parses taken =
+    let proof = proof_of parts.mechanism key parts.usage parts.signed d in
+    let p = passed (is_answer parts d) (guard_fault parts.mechanism key parts.usage parts.signed d) parts.plan.transport (claim_of d) (content proof understood d) taken in
+    let kept = shown (lacks_fingerprint parts.usage d) (mechanism_fault parts.mechanism (is_some proof) parts.signed d) p.kept_in in
+    let there : is_taken (content proof understood d) ≡ true = sym (ap is_taken p.is_reported) ∙ taken in
+    let same : proof_in (judged (pending parts) key understood d) ≡ proof = ap proof_in p.is_reported ∙ by_types proof (first_unknown understood d) (class_of (type_field d)) d there in
+    record {
+      parses = parses;
+      answers = p.right;
+      fingerprint = kept.0;
+      fit = fit_by parts.mechanism (is_some proof) parts.signed d kept.1;
+      proved = subst (IsProved parts.mechanism key parts.usage.min_hmac_length parts.signed d) (sym same) (proved_as parts.mechanism key parts.usage parts.signed d bytes parses kept.1);
+    }
+
+-- what a transaction takes parses, and its pending request takes it
+in_progress : (ongoing : Bool) (fault : Option StunParseError) (reported : Outcome) → is_taken (if ongoing && not (is_some fault) then reported else NotForThis) ≡ true
+    → (fault ≡ None) × ((if ongoing && not (is_some fault) then reported else NotForThis) ≡ reported)
+in_progress true None reported taken = (refl, refl)
+in_progress true (Some e) reported taken = absurd cc
+in_progress false fault reported taken = absurd cc
 
 pub right : (parts : TransactionParts) (key : Option IntegrityKey) (understood : List AttributeType) (d : List ℕ) → IsBytes d → is_taken (received_outcome parts key understood d) ≡ true
     → IsRightResponse parts key d (proof_in (received_outcome parts key understood d))
 right parts key understood d bytes taken =
-    let proof = proof_of parts.mechanism key parts.usage parts.signed d in
-    let p = passed (is_open parts.state) (parse_fault d) (is_answer parts d) (guard_fault parts.mechanism key parts.usage parts.signed d) parts.plan.transport (claim_of d) (content proof understood d) taken in
-    let kept = shown (lacks_fingerprint parts.usage d) (mechanism_fault parts.mechanism (is_some proof) parts.signed d) p.kept_in in
-    let there : is_taken (content proof understood d) ≡ true = sym (ap is_taken p.is_reported) ∙ taken in
-    let same : proof_in (received_outcome parts key understood d) ≡ proof = ap proof_in p.is_reported ∙ by_types proof (first_unknown understood d) (class_of (type_field d)) d there in
-    record {
-      parses = p.parses;
-      answers = p.right;
-      fingerprint = kept.0;
-      fit = fit_by parts.mechanism (is_some proof) parts.signed d kept.1;
-      proved = subst (IsProved parts.mechanism key parts.usage.min_hmac_length parts.signed d) (sym same) (proved_as parts.mechanism key parts.usage parts.signed d bytes p.parses kept.1);
-    }
+    let both = in_progress (is_open parts.state) (parse_fault d) (judged (pending parts) key understood d) taken in
+    subst (λ (o : Outcome). IsRightResponse parts key d (proof_in o)) (sym both.1) (judged_right parts key understood d bytes both.0 (sym (ap is_taken both.1) ∙ taken))

@@ -9,6 +9,7 @@ use Rattle.stun_transactions.specs.declared.parts.Mechanism.{Mechanism}
 use Rattle.stun_transactions.specs.declared.parts.Mechanism.TheVariants.{ShortTerm, FirstLongTerm, LongTerm}
 use Rattle.stun_transactions.specs.declared.parts.PartsError.{PartsError}
 use Rattle.stun_transactions.specs.declared.parts.PartsError.TheVariants.{SignedOtherwise, SentTooOften, SentTooLate, NoKey, NoUseForKey, KeyForOneAlgorithm}
+use Rattle.stun_transactions.specs.declared.parts.PendingRequest.{PendingRequest}
 use Rattle.stun_transactions.specs.declared.parts.TransactionParts.{TransactionParts}
 use Rattle.stun_transactions.specs.declared.retransmission.RetransmissionState.{RetransmissionState}
 use Rattle.stun_transactions.specs.Guards.{is_signed, is_signed_for, signs}
@@ -22,6 +23,17 @@ pub record PartsAndKey : Type 0 where
 -- the same parts, but that it has come so far
 abbrev pub at_state : TransactionParts → RetransmissionState → TransactionParts
 at_state parts state = record parts { state = state }
+
+-- the request of a transaction, as judging a response needs it
+abbrev pub pending : TransactionParts → PendingRequest
+pending parts = record {
+  transport = parts.plan.transport;
+  method = parts.method;
+  id = parts.id;
+  signed = parts.signed;
+  mechanism = parts.mechanism;
+  usage = parts.usage;
+}
 
 -- ---- Why they aren't those of a transaction
 

@@ -20,10 +20,12 @@ use Rattle.stun_transactions.specs.declared.received.Outcome.{Outcome}
 use Rattle.stun_transactions.specs.declared.received.Outcome.TheVariants.{NotForThis, Discarded, Failed, Success, Error}
 use Rattle.stun_types.specs.Replies.{responds_to}
 use Rattle.stun_keys.specs.declared.keys.integrity_key.IntegrityKey.{IntegrityKey}
+use Rattle.stun_transactions.specs.declared.parts.PendingRequest.{PendingRequest}
 use Rattle.stun_transactions.specs.declared.parts.TransactionParts.{TransactionParts}
 use Rattle.stun_transactions.specs.Responses.{first_unknown}
 use Rattle.stun_transactions.specs.Guards.{proof_of, guard_fault}
 use Rattle.stun_transactions.specs.Outcomes.{is_open}
+use Rattle.stun_transactions.specs.Parts.{pending}
 
 -- what a response that isn't taken claims: its code, if it is an error response
 abbrev pub claim_of : List ℕ → Claim
@@ -53,17 +55,24 @@ content proof understood d =
     (content_by_class proof (class_of (type_field d)) d)
 
 -- whether d is a response to the request: it has the request's method and transaction ID
-abbrev pub is_answer : TransactionParts → List ℕ → Bool
-is_answer parts d = responds_to parts.method parts.id d
+abbrev pub answers : PendingRequest → List ℕ → Bool
+answers request d = responds_to request.method request.id d
 
--- what a message is for a transaction in progress
-abbrev pub outcome : TransactionParts → Option IntegrityKey → List AttributeType → List ℕ → Outcome
-outcome parts key understood d =
-    if is_answer parts d then
-    option_map_or (discarded parts.plan.transport (claim_of d))
-    (guard_fault parts.mechanism key parts.usage parts.signed d)
-    (content (proof_of parts.mechanism key parts.usage parts.signed d) understood d)
+-- what a message is for a request that awaits its response
+abbrev pub judged : PendingRequest → Option IntegrityKey → List AttributeType → List ℕ → Outcome
+judged request key understood d =
+    if answers request d then
+    option_map_or (discarded request.transport (claim_of d))
+    (guard_fault request.mechanism key request.usage request.signed d)
+    (content (proof_of request.mechanism key request.usage request.signed d) understood d)
     else NotForThis
+
+-- the same for a transaction in progress
+abbrev pub is_answer : TransactionParts → List ℕ → Bool
+is_answer parts d = answers (pending parts) d
+
+abbrev pub outcome : TransactionParts → Option IntegrityKey → List AttributeType → List ℕ → Outcome
+outcome parts key understood d = judged (pending parts) key understood d
 
 -- what received bytes are for a transaction: nothing if it isn't in progress, or they are no
 -- message; what has a wrong FINGERPRINT is none

@@ -6,7 +6,7 @@ ghost use Rattle.stun_authentication.specs.Policies.{proved_at};
 ghost use Rattle.stun_keys.specs.Keys.{key_algorithm};
 ghost use Rattle.stun_transactions.specs.Guards.{signed_by, is_signed, is_signed_for, signs_by, have_common, validated, matched_by, short_term_fault, long_term_fault};
 
-use crate::parts::{Mechanism, TransactionParts};
+use crate::parts::{Mechanism, PendingRequest};
 use crate::received::Discard;
 use std::alloc::Global;
 use stun_authentication::{has_least_length, is_bid_down, is_challenge, response_code};
@@ -196,19 +196,19 @@ impl Protection {
     }
 }
 
-impl TransactionParts {
-    ghost use Rattle.std.specs.Prelude.{◌≡◌};
+impl PendingRequest {
+    ghost use Rattle.std.specs.Prelude.{◌≡◌, option_copied};
     ghost use Rattle.stun_types.specs.Message.{message_bytes};
     ghost use Rattle.stun_transactions.specs.Guards.{proof_of, mechanism_fault, response_fault};
 
     /// The algorithm of the attribute that authenticates a response, if one does.
     pub(crate) fn proof_of(
         &self,
-        key: &Option<IntegrityKey>,
+        key: Option<&IntegrityKey>,
         message: &Message<'_>,
     ) -> Option<IntegrityAlgorithm>
-        ensures { result ≡ proof_of self.now.mechanism key.now self.now.usage self.now.signed
-            (message_bytes message.now) }
+        ensures { result ≡ proof_of self.now.mechanism (option_copied key.entry) self.now.usage
+            self.now.signed (message_bytes message.now) }
     {
         match (self.mechanism, key) {
             (Some(Mechanism::ShortTerm), Some(key)) => {

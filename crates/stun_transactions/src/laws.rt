@@ -12,8 +12,9 @@ ghost use Rattle.stun_transactions.specs.Retransmissions.{begun, ended_by, stopp
 ghost use Rattle.std.specs.declared.time.Duration.{Duration};
 ghost use Rattle.stun_transactions.specs.declared.retransmission.Action.{Action};
 ghost use Rattle.stun_transactions.specs.Outcomes.{after};
-ghost use Rattle.stun_transactions.specs.Receiving.{received_outcome};
+ghost use Rattle.stun_transactions.specs.Receiving.{judged, received_outcome};
 ghost use Rattle.stun_grammar.specs.Numbers.{IsBytes};
+ghost use Rattle.stun_grammar.specs.Parsing.{parse_fault};
 ghost use Rattle.stun_transactions.specs.Taking.{is_taken, proof_in, IsRightResponse};
 ghost use Rattle.stun_transactions.specs.declared.guard.Protection.{Protection};
 ghost use Rattle.stun_transactions.specs.declared.response_policy.ResponsePolicy.{ResponsePolicy};
@@ -22,7 +23,7 @@ ghost use Rattle.stun_transactions.specs.declared.transaction.Transaction.{Trans
 ghost use Rattle.stun_keys.specs.declared.keys.integrity_key.IntegrityKey.{IntegrityKey};
 ghost use Rattle.stun_transactions.specs.Beginning.{begin_fault};
 ghost use Rattle.stun_transactions.specs.Guards.{HasSameKey};
-ghost use Rattle.stun_transactions.specs.Parts.{at_state, parts_fault, whole_fault};
+ghost use Rattle.stun_transactions.specs.Parts.{at_state, parts_fault, pending, whole_fault};
 ghost use Rattle.stun_transactions.specs.Transactions.{begun_with};
 ghost use Rattle.stun_transactions.specs.Runs.{Call, IsRun, Stays, sends, IsSpaced, left_by};
 
@@ -114,6 +115,17 @@ pub fn accepted_is_authentic()
         (understood : List AttributeType) (d : List ℕ)
         → IsBytes d → is_taken (received_outcome parts key understood d) ≡ true
         → IsRightResponse parts key d (proof_in (received_outcome parts key understood d)) }
+{}
+
+/// What [`PendingRequest::judge`](crate::PendingRequest::judge) takes is authentic too, as
+/// [`accepted_is_authentic`] says of a transaction with this request.
+#[tactic(auto, using(crate::proofs::TakingLemmas::judged_right))]
+pub fn judged_is_authentic()
+    ensures { (parts : TransactionParts) (key : Option IntegrityKey)
+        (understood : List AttributeType) (d : List ℕ) → let outcome = judged (pending parts) key
+        understood d in
+        IsBytes d → parse_fault d ≡ None → is_taken outcome ≡ true
+        → IsRightResponse parts key d (proof_in outcome) }
 {}
 
 /// A transaction is determined by its parts and its key.

@@ -27,11 +27,12 @@ mod transactions;
 pub use beginning::BeginError;
 pub use guard::{Protection, Signed};
 pub use laws::{
-    accepted_is_authentic, ends_are_final, first_poll_sends, intervals_sum, no_parts_are_refused,
-    other_calls_stay, parts_are_the_whole, requests_are_spaced, stopping_sends_nothing,
+    accepted_is_authentic, ends_are_final, first_poll_sends, intervals_sum, judged_is_authentic,
+    no_parts_are_refused, other_calls_stay, parts_are_the_whole, requests_are_spaced,
+    stopping_sends_nothing,
 };
 pub use mapped::{mapped_address, response_address};
-pub use parts::{Mechanism, PartsError, TransactionParts};
+pub use parts::{Mechanism, PartsError, PendingRequest, TransactionParts};
 pub use plan::Plan;
 pub use received::{Claim, Discard, Failure, Received};
 pub use response_policy::ResponsePolicy;

@@ -3,13 +3,11 @@
 use crate::parts::{Mechanism, PartsError, TransactionParts};
 use crate::retransmission::{Action, TransactionEnd};
 use std::time::Duration;
-use stun_types::message::{IntegrityKey, Message};
+use stun_types::message::IntegrityKey;
 
 impl TransactionParts {
     ghost use Rattle.std.specs.Prelude.{◌≡◌, None, Some, MatchResult, option_copied};
-    ghost use Rattle.stun_types.specs.Message.{message_bytes};
     ghost use Rattle.stun_transactions.specs.Parts.{at_state, is_signed_otherwise, parts_fault, key_fault};
-    ghost use Rattle.stun_transactions.specs.Receiving.{is_answer};
     ghost use Rattle.stun_transactions.specs.Retransmissions.{is_ready, ended_by, stopped_by, Polls, TellsTime};
     ghost use Rattle.stun_transactions.specs.Transactions.{Wakes};
 
@@ -101,15 +99,6 @@ impl TransactionParts {
                 Some(_) => Err(PartsError::KeyForOneAlgorithm),
             },
         }
-    }
-
-    /// Whether a message is a response with the method and the transaction ID of the request.
-    pub(crate) fn is_answer(&self, message: &Message<'_>) -> bool
-        ensures { result ≡ is_answer self.now (message_bytes message.now) }
-    {
-        message.is_response()
-            && message.method() == self.method
-            && message.transaction_id() == self.id
     }
 
     /// Returns the moment from which on a poll does something, as

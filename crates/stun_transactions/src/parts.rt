@@ -4,6 +4,7 @@ use crate::guard::Signed;
 use crate::plan::Plan;
 use crate::response_policy::ResponsePolicy;
 use crate::retransmission::RetransmissionState;
+use stun_types::TransportType;
 use stun_types::message::{Method, TransactionId};
 use thiserror::Error;
 
@@ -62,4 +63,41 @@ pub struct TransactionParts {
     pub usage: ResponsePolicy,
     /// How far the transaction has come.
     pub state: RetransmissionState,
+}
+
+/// A request that awaits its response: what [`PendingRequest::judge`] needs of it. It has no
+/// schedule, for a caller that sends its requests by rules of its own.
+#[derive(Clone, Copy, Debug, PartialEq, Eq)]
+pub struct PendingRequest {
+    /// The transport by which the request was sent.
+    pub transport: TransportType,
+    /// The method of the request.
+    pub method: Method,
+    /// The transaction ID of the request.
+    pub id: TransactionId,
+    /// The integrity attributes that the request shows.
+    pub signed: Signed,
+    /// The credential mechanism in use, if one is.
+    pub mechanism: Option<Mechanism>,
+    /// The requirements of the STUN usage on responses.
+    pub usage: ResponsePolicy,
+}
+
+impl TransactionParts {
+    ghost use Rattle.std.specs.Prelude.{◌≡◌};
+    ghost use Rattle.stun_transactions.specs.Parts.{pending};
+
+    /// Returns the request of the transaction, as [`PendingRequest::judge`] needs it.
+    pub fn pending(&self) -> PendingRequest
+        ensures { result ≡ pending self.now }
+    {
+        PendingRequest {
+            transport: self.plan.transport,
+            method: self.method,
+            id: self.id,
+            signed: self.signed,
+            mechanism: self.mechanism,
+            usage: self.usage,
+        }
+    }
 }

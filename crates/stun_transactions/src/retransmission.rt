@@ -3,10 +3,10 @@
 ghost use Rattle.std.specs.Prelude.{◌≡◌, ◌↔◌, ◌+◌, ◌≤◌, IsTrue, min};
 ghost use Rattle.std.specs.Duration.{as_nanos, max_nanos};
 ghost use Rattle.stun_transactions.specs.Retransmissions.{later, begun, wait_of, due, has_more, is_ready, end_of, ended_by, stopped_by, Polls, TellsTime};
-ghost use Rattle.stun_transactions.specs.Outcomes.{after, is_open, end_of_failure};
+ghost use Rattle.stun_transactions.specs.Outcomes.{outcome_of, after, is_open, end_of_failure};
 
 use crate::plan::Plan;
-use crate::received::{Discard, Failure, Outcome};
+use crate::received::{Discard, Failure, Received};
 use std::time::Duration;
 
 /// How a transaction ended.
@@ -215,20 +215,20 @@ impl RetransmissionState {
     }
 
     /// Takes in what a received message is for the transaction.
-    pub(crate) fn receive(&mut self, outcome: Outcome)
-        ensures { self.new ≡ after outcome self.old }
+    pub(crate) fn receive(&mut self, received: &Received<'_>)
+        ensures { self.new ≡ after (outcome_of received.now) self.old }
     {
-        match outcome {
-            Outcome::NotForThis
-            | Outcome::Discarded(
+        match received {
+            Received::NotForThis
+            | Received::Discarded(
                 Discard::BidDown | Discard::UnsignedBadRequest | Discard::NoFingerprint,
                 _,
             ) => {}
-            Outcome::Discarded(Discard::NotAuthentic | Discard::OtherAlgorithm, _) => {
+            Received::Discarded(Discard::NotAuthentic | Discard::OtherAlgorithm, _) => {
                 self.violated = true;
             }
-            Outcome::Failed(failure) => self.end = Some(end_of_failure(failure)),
-            Outcome::Success(_) | Outcome::Error(_, _) => {
+            Received::Failed(failure) => self.end = Some(end_of_failure(*failure)),
+            Received::Success(_, _) | Received::Error(_, _, _) => {
                 self.end = Some(TransactionEnd::Answered);
             }
         }

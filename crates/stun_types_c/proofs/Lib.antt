@@ -1,5 +1,6 @@
 mod CAuthenticatedLemmas
 mod TwoWords
+mod SendingLemmas
 mod SharedLemmas
 mod WalksLemmas
 mod NewValuesLemmas
@@ -17,3 +18,4 @@ mod ManyTransactionsLemmas
 mod KnownTypesLemmas
 mod TurnLemmas
 mod GivenHmacsLemmas
+mod AllocationLemmas

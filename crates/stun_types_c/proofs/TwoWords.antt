@@ -1,26 +1,26 @@
 -- What the walks share. Each is over a struct of a pointer and an allocator's handle, and such a
 -- struct is two machine values. Assumes `Logic`.
 --     two                       the struct's machine value
---     two_typed, two_typed_null     it has the struct's type, if the pointer leads into a block,
---                               and if it is null
+--     ptr_typed                 a pointer's machine value has a pointer's type
+--     two_typed                 the struct's has the struct's type
 --     one_word                  what the handle owns is owned at one machine value, of its type
 --     taken_apart               what the struct's fields own is what the handle owns
 --     put_together              and back
 --     at_one_word               a run on an argument that is one machine value
 --     value_of                  the value of an option that has one
-use Rattle.std.proofs.Common.{◌≡◌, ℕ, List, [], ◌∷◌, ◌++◌, refl, sym, ◌∙◌, subst}
+use Rattle.std.proofs.Common.{◌≡◌, List, [], ◌∷◌, ◌++◌, refl, sym, ◌∙◌, subst}
 use mathlib.Core.Bool.{Bool, true, false, ◌&&◌}
 use lib.Dec.{T, lit<}
 use seplogic.Ra.Ura.{Ura}
-use mir.Syntax.{impl, tnil, dnil}
-use mir.Val.{Val, vptr, vnull, vstruct, vcons, vnil, of_list, has_ty, WT}
+use mir.Syntax.{impl, tnil, dnil, ty_ptr}
+use mir.Val.{Val, vstruct, vcons, vnil, of_list, has_ty, WT}
 use base.Logic.{SProp, ent, id⊢}
 use base.Fml.{ftrue}
 use types.Logic.{Logic}
 use types.Kit.{Item, Goal, Seq, Step, step, ‵, ◌$◌, move, drop, fsplit, fjoin, fpick, fpack, feq_i, feq_l}
 use denote.RattleType.{RattleType, Valss}
 use denote.Builtin.{RawPtr}
-use denote.RawPtr.{Ptr, ptr_val}
+use denote.RawPtr.{Ptr, block_ptr, null_ptr, ptr_val}
 use denote.Steps.{nothing}
 use denote.Param.{layout}
 use denote.Param.Laws.{Laws}
@@ -41,17 +41,18 @@ at_one_word 𝓤 run {w = w} is =
     subst (λ (us : List Val). ent 𝓤 (run (w ∷ [])) (run us)) (sym (λ i. is i ++ []))
     (id⊢ 𝓤 (run (w ∷ [])))
 
+pub ptr_typed : (p : Ptr) → T (has_ty ty_ptr (ptr_val p)) × WT (ptr_val p)
+ptr_typed (block_ptr b o) = (tt, tt)
+ptr_typed null_ptr = (tt, record { fits = lit< tt })
+
 module _ (Z : RattleType) where
   abbrev pub Fits : Val → Type 0
   Fits h = T (has_ty (layout Z) h) × WT h
 
-  pub two_typed : (b o : ℕ) (h : Val) → Fits h
-      → T (has_ty (layout Z) h && true) × WT (two (vptr b o) h)
-  two_typed b o h fits = (and_true (has_ty (layout Z) h) fits.0, (tt, (fits.1, tt)))
-
-  pub two_typed_null : (h : Val) → Fits h → T (has_ty (layout Z) h && true) × WT (two vnull h)
-  two_typed_null h fits =
-      (and_true (has_ty (layout Z) h) fits.0, (record { fits = lit< tt }, (fits.1, tt)))
+  pub two_typed : (p : Ptr) (h : Val) → Fits h
+      → T (has_ty ty_ptr (ptr_val p) && (has_ty (layout Z) h && true)) × WT (two (ptr_val p) h)
+  two_typed (block_ptr b o) h fits = (and_true (has_ty (layout Z) h) fits.0, (tt, (fits.1, tt)))
+  two_typed null_ptr h fits = (and_true (has_ty (layout Z) h) fits.0, (record { fits = lit< tt }, (fits.1, tt)))
 
 module _ (Z : RattleType) (L : Laws Z) where
   abbrev shape : Shape

@@ -1,6 +1,7 @@
 -- The texts of codes.
 use Rattle.std.specs.Prelude.{ℕ, ◌-◌, ◌==◌, List, [], ◌∷◌, ◌++◌, take, codes, if◌then◌else◌}
 use Rattle.stun_types_c.specs.Codes.{OK, NOT_STUN, TRUNCATED, TOO_LARGE, FINGERPRINT_MISMATCH, MISSING_ATTRIBUTE, INVALID_DATA, INTEGRITY_FAILED, OUT_OF_MEMORY, TOO_SMALL, EXISTS, ENDING_TYPE, OUT_OF_RANGE, BAD_ARGUMENT, NO_KEY, NOT_PADDED, NOT_A_REQUEST, NOT_SIGNED, SIGNED, NOT_A_CHALLENGE, BID_DOWN, INCOMPLETE, NO_ALGORITHM, SAME_CREDENTIALS, HMAC_TOO_SHORT}
+use Rattle.stun_types_c.specs.AllocationCodes.{FULL, OTHER_FAMILY}
 
 -- a short English text for a code
 abbrev pub code_text : ℕ → List ℕ
@@ -29,7 +30,9 @@ code_text code =
     if code == INCOMPLETE then codes "REALM or NONCE is missing" else (
     if code == NO_ALGORITHM then codes "no password algorithm is supported" else (
     if code == SAME_CREDENTIALS then codes "the credentials were refused already" else (
-    if code == HMAC_TOO_SHORT then codes "the HMAC is cut to too few bytes" else codes "unknown code"))))))))))))))))))))))))
+    if code == HMAC_TOO_SHORT then codes "the HMAC is cut to too few bytes" else (
+    if code == FULL then codes "there is no room" else (
+    if code == OTHER_FAMILY then codes "the address is of another family" else codes "unknown code"))))))))))))))))))))))))))
 
 -- a text, cut to a number of bytes with the 0 after it
 abbrev pub ended : (room : ℕ) (text : List ℕ) → List ℕ

@@ -1,4 +1,4 @@
--- What the place of a key owns, and what it has of a key that is shared.
+-- What the place of a value owns, and what it has of a key that is shared.
 use Rattle.std.specs.Prelude.{ℕ, Bool, Option, Some, None, ◌==◌}
 use Rattle.std.specs.Box.Ownership.{box_owns}
 use Rattle.std.specs.contracts.impls.GlobalAllocator.TheImpl.{ghosts}
@@ -6,13 +6,17 @@ use Rattle.std.specs.declared.alloc.Global.{Global}
 use base.Fml.{Lft, Share, Fml, ftrue, fsep, fex, flft}
 use denote.RattleType.{RattleType}
 use denote.RawPtr.{Ptr}
+use mir.Syntax.{Ty}
 use denote.Struct.Lending.{lent_at}
 
--- nothing, or what a box by the heap of C owns: a value of the type R at the pointer, and the right
--- to free its memory
-abbrev pub owns_if_some : Global → (R : RattleType) → Ptr → Option R.Denot → Fml
-owns_if_some alloc R at None = ftrue
-owns_if_some alloc R at (Some value) = box_owns (ghosts.dealloc_token alloc) R at value
+-- the right to free memory of the heap of C
+abbrev pub frees : Global → Ty → Ptr → Fml
+frees alloc = ghosts.dealloc_token alloc
+
+-- nothing, or what a box owns: a value of the type R at the pointer, and the right to free its memory
+abbrev pub owns_if_some : (frees : Ty → Ptr → Fml) → (R : RattleType) → Ptr → Option R.Denot → Fml
+owns_if_some frees R at None = ftrue
+owns_if_some frees R at (Some value) = box_owns frees R at value
 
 -- a lifetime hasn't ended, and doesn't end while this is held: a share of its token
 abbrev pub lasts : Lft → Fml

@@ -37,5 +37,13 @@ pub mod TurnHandles
 pub mod TurnServers
 pub mod TurnAddresses
 pub mod TurnMaking
+pub mod TurnChanges
 pub mod TurnClients
 pub mod TurnPeers
+pub mod TurnEnding
+pub mod AllocationCodes
+pub mod AllocationMarks
+pub mod AllocationHandles
+pub mod AllocationMaking
+pub mod AllocationCalls
+pub mod AllocationChanges

@@ -38,18 +38,17 @@ ready_named family address =
     if address.family == family then option_map (λ a. Some (endpoint_of a)) (socket_named address)
     else None)
 
--- the sockets of a family that the server has, if it has some
-abbrev pub family_named : (family has : ℕ) → (any even : Address) → Option (Option Ready)
-family_named family has any even =
-    option_and_then (λ any. option_map (λ even.
-    if has == 0 then None else Some (record { any = any; even = even }))
+-- the sockets of a family: none are a pair
+abbrev pub family_named : (family : ℕ) → (any even : Address) → Option Ready
+family_named family any even =
+    option_and_then (λ any. option_map (λ even. record { any = any; even = even; pair = None })
     (ready_named family even)) (ready_named family any)
 
 abbrev pub sockets_named : CTurnReady → Option Sockets
 sockets_named ready =
-    option_and_then (λ ipv4. option_map (λ ipv6. record { ipv4 = ipv4; ipv6 = ipv6 })
-    (family_named 6 ready.ipv6 ready.any_ipv6 ready.even_ipv6))
-    (family_named 4 ready.ipv4 ready.any_ipv4 ready.even_ipv4)
+    option_and_then (λ ipv4. option_map (λ ipv6. record { ipv4 = ipv4; ipv6 = ipv6; token = 0 })
+    (family_named 6 ready.any_ipv6 ready.even_ipv6))
+    (family_named 4 ready.any_ipv4 ready.even_ipv4)
 
 -- C's form holds a 5-tuple
 pub record HoldsTuple (tuple : FiveTuple) (held : CFiveTuple) : Type 0 where

@@ -1,5 +1,5 @@
 -- What a TURN server does for a client's datagram, as C sees it.
-use Rattle.std.specs.Prelude.{◌≡◌, ◌⊎◌, ℕ, Bool, true, false, not, ◌&&◌, List, Option, None, Some, MatchOption, MatchResult, IsSomeAnd, unwrap_or, ◌==◌, if◌then◌else◌}
+use Rattle.std.specs.Prelude.{◌≡◌, ◌⊎◌, ℕ, Bool, true, false, not, ◌&&◌, List, length, Option, None, Some, MatchOption, MatchResult, IsSomeAnd, unwrap_or, ◌==◌, if◌then◌else◌}
 use Rattle.std.specs.Option.{option_zip}
 use Rattle.stun_keys.specs.declared.keys.integrity_key.IntegrityKey.{IntegrityKey}
 use Rattle.stun_values.specs.declared.algorithm.PasswordAlgorithmValue.{PasswordAlgorithmValue}
@@ -19,69 +19,96 @@ use Rattle.turn_server.specs.declared.action.Response.{Response}
 use Rattle.turn_server.specs.declared.sockets.Sockets.{Sockets}
 use Rattle.stun_types_c.specs.declared.address.Address.{Address}
 use Rattle.stun_types_c.specs.declared.call_result.CResult.{CResult}
-use Rattle.stun_types_c.specs.declared.turn_client.CTurnAction.{CTurnAction}
-use Rattle.stun_types_c.specs.declared.turn_client.CTurnDatagram.{CTurnDatagram}
+use Rattle.stun_types_c.specs.declared.turn_datagrams.CTurnAction.{CTurnAction}
+use Rattle.stun_types_c.specs.declared.turn_datagrams.COpened.{COpened}
+use Rattle.stun_types_c.specs.declared.turn_datagrams.CTurnDatagram.{CTurnDatagram}
 use Rattle.stun_types_c.specs.declared.turn_core.TurnCore.{TurnCore}
 use Rattle.stun_types_c.specs.Addresses.{Holds}
 use Rattle.stun_types_c.specs.Codes.{OK, OUT_OF_MEMORY, BAD_ARGUMENT}
 use Rattle.stun_types_c.specs.CResults.{plain, write_result, Refuses}
 use Rattle.stun_types_c.specs.TurnAddresses.{nowhere, tuple_named, sockets_named}
-use Rattle.stun_types_c.specs.TurnServers.{setup_in}
+use Rattle.stun_types_c.specs.TurnServers.{setup_in, rules_in}
 use Rattle.stun_types_c.specs.Users.{held_of, long_term_key_of}
 
 -- ---- What C is to do
 
--- nothing; or to look for a key
-abbrev pub of_kind : (kind : ℕ) → CTurnAction
-of_kind kind = record { relay = 0; at = 0; length = 0; peer = nowhere; kind = kind; took = 0; code = 0 }
+-- no socket was taken
+abbrev pub none_opened : COpened
+none_opened = record { relay = 0; relayed = nowhere; took = 0 }
 
-abbrev pub nothing : CTurnAction
-nothing = of_kind 0
-
--- data goes to a peer from a socket
-abbrev pub sending : (relay : ℕ) → Address → (at length : ℕ) → CTurnAction
-sending relay peer at length =
-    record { relay = relay; at = at; length = length; peer = peer; kind = 2; took = 0; code = 0 }
-
--- a socket with this relayed address is an allocation's
-abbrev pub taking : (relay : ℕ) → (relayed : Address) → CTurnAction
-taking relay relayed =
-    record { relay = relay; at = 0; length = 0; peer = relayed; kind = 0; took = 1; code = 0 }
-
--- a response of some bytes is sent too
-abbrev pub with_response : (code length : ℕ) → CTurnAction → CTurnAction
-with_response code length done = record {
-  relay = done.relay;
-  at = done.at;
-  length = length;
-  peer = done.peer;
-  kind = 1;
-  took = done.took;
-  code = code;
+-- nothing; or to look for a key. The call ended so many relayed addresses
+abbrev pub of_kind : (kind ended : ℕ) → CTurnAction
+of_kind kind ended = record {
+  relay = 0;
+  at = 0;
+  length = 0;
+  ended = ended;
+  ipv4 = none_opened;
+  ipv6 = none_opened;
+  peer = nowhere;
+  kind = kind;
+  code = 0;
+  dont_fragment = 0;
 }
 
--- what is done but for a response: an allocation was opened, or none
-abbrev pub IsOpened : Option Opened → CTurnAction → Type 0
-IsOpened None done = done ≡ nothing
-IsOpened (Some opened) done =
-    (address : Address)
-    × (Holds (socket_of opened.relayed) address × (done ≡ taking opened.number address))
+abbrev pub nothing : CTurnAction
+nothing = of_kind 0 0
 
--- a response is sent, or the call returns why it isn't written
-abbrev pub IsSent : Response → CResult → CTurnAction → Type 0
-IsSent response result out =
-    (done : CTurnAction) × (IsOpened response.opened done
-    × MatchResult response.written
-    (λ length. (result ≡ plain OK) × (out ≡ with_response (unwrap_or response.code 0) length done))
-    (λ e. (result ≡ write_result e) × (out ≡ done)))
+abbrev pub flag : Bool → ℕ
+flag is_set = if is_set then 1 else 0
 
--- what is done for an action
-abbrev pub IsInC : Action → CResult → CTurnAction → Type 0
-IsInC Dropped result out = (result ≡ plain OK) × (out ≡ nothing)
-IsInC (Responds response) result out = IsSent response result out
-IsInC (ToPeer relay peer span) result out =
-    (result ≡ plain OK) × ((address : Address)
-    × (Holds (socket_of peer) address × (out ≡ sending relay address span.at span.length)))
+-- data goes to a peer from a socket
+abbrev pub sending : (relay : ℕ) → Address → (dont_fragment : Bool) → (at length ended : ℕ) → CTurnAction
+sending relay peer dont_fragment at length ended = record {
+  relay = relay;
+  at = at;
+  length = length;
+  ended = ended;
+  ipv4 = none_opened;
+  ipv6 = none_opened;
+  peer = peer;
+  kind = 2;
+  code = 0;
+  dont_fragment = flag dont_fragment;
+}
+
+-- a response of some bytes is sent, or none; and these sockets were taken
+abbrev pub responding : (ipv4 ipv6 : COpened) → (kind code length ended : ℕ) → CTurnAction
+responding ipv4 ipv6 kind code length ended = record {
+  relay = 0;
+  at = 0;
+  length = length;
+  ended = ended;
+  ipv4 = ipv4;
+  ipv6 = ipv6;
+  peer = nowhere;
+  kind = kind;
+  code = code;
+  dont_fragment = 0;
+}
+
+-- the socket of a relayed address that was opened, or none
+abbrev pub IsOpened : Option Opened → COpened → Type 0
+IsOpened None held = held ≡ none_opened
+IsOpened (Some opened) held =
+    Holds (socket_of opened.relayed) held.relayed × ((held.relay ≡ opened.number) × (held.took ≡ 1))
+
+-- a response is sent, or the call returns why it isn't written. Either way C has the sockets that were taken
+pub record IsSent (response : Response) (ended : ℕ) (result : CResult) (out : CTurnAction) : Type 0 where
+  pub ipv4 : IsOpened response.opened.ipv4 out.ipv4
+  pub ipv6 : IsOpened response.opened.ipv6 out.ipv6
+  pub sent : MatchResult response.written
+      (λ length. (result ≡ plain OK)
+      × (out ≡ responding out.ipv4 out.ipv6 1 (unwrap_or response.code 0) length ended))
+      (λ e. (result ≡ write_result e) × (out ≡ responding out.ipv4 out.ipv6 0 0 0 ended))
+
+-- what is done for an action, of a call that ended so many relayed addresses
+abbrev pub IsInC : Action → (ended : ℕ) → CResult → CTurnAction → Type 0
+IsInC Dropped ended result out = (result ≡ plain OK) × (out ≡ of_kind 0 ended)
+IsInC (Responds response) ended result out = IsSent response ended result out
+IsInC (ToPeer relay peer dont_fragment span) ended result out =
+    (result ≡ plain OK) × (Holds (socket_of peer) out.peer
+    × (out ≡ sending relay out.peer dont_fragment span.at span.length ended))
 
 -- ---- A datagram
 
@@ -97,11 +124,10 @@ pub record ActsInC (core : TurnCore) (now : ℕ) (tuple : FiveTuple) (d : List �
     (result : CResult) (slice : List ℕ) (new : TurnCore) (new_slice : List ℕ) (out : CTurnAction)
     : Type 0 where
   pub action : Action
-  pub acts : Acts core.access sockets keys (setup_in core) tuple now d
-      (record { state = core.server.state; slice = slice })
-      (record { state = new.server.state; slice = new_slice }) action
+  pub acts : Acts core.access sockets keys (setup_in core) (rules_in core) tuple now d core.server new.server
+      slice new_slice action
   pub same : IsSameServer core new
-  pub in_c : IsInC action result out
+  pub in_c : IsInC action (length new.server.ended) result out
 
 -- whether what comes of d depends on a key
 abbrev pub asks_for_key : TurnCore → (now : ℕ) → (client : Endpoint) → List ℕ → Bool
@@ -132,7 +158,7 @@ abbrev pub Takes : (is_missing : Bool) → TurnCore → (now : ℕ) → FiveTupl
     → Left → Left → Type 0
 Takes true core now tuple d keys sockets result old new =
     (result ≡ plain OK)
-    × (new ≡ record { core = old.core; slice = old.slice; action = of_kind 3 })
+    × (new ≡ record { core = old.core; slice = old.slice; action = of_kind 3 0 })
 Takes false core now tuple d keys sockets result old new =
     ActsOn core now tuple d keys sockets result old new
 

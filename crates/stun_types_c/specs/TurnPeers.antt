@@ -2,7 +2,6 @@
 use Rattle.std.specs.Prelude.{◌≡◌, ℕ, List, length, Option, None, Some, MatchOption, IsSomeAnd, nat_lt, if◌then◌else◌}
 use Rattle.stun_grammar.specs.Numbers.{number}
 use Rattle.stun_endpoints.specs.declared.endpoints.Endpoint.{Endpoint}
-use Rattle.turn_table.specs.Polls.{Polls}
 use Rattle.stun_endpoints.specs.Conversions.{endpoint_of}
 use Rattle.turn_server.specs.Delivering.{Receives as ReceivesBy}
 use Rattle.turn_server.specs.declared.action.Delivery.{Delivery}
@@ -16,7 +15,7 @@ use Rattle.stun_types_c.specs.Codes.{OK, TOO_SMALL, BAD_ARGUMENT}
 use Rattle.stun_types_c.specs.CResults.{plain, counted, Refuses}
 use Rattle.stun_types_c.specs.TurnAddresses.{nowhere, HoldsTuple}
 use Rattle.stun_types_c.specs.TurnClients.{IsSameServer}
-use Rattle.stun_types_c.specs.TurnServers.{setup_in}
+use Rattle.stun_types_c.specs.TurnServers.{setup_in, rules_in}
 
 -- ---- What C is to do
 
@@ -25,21 +24,25 @@ pub record Delivered : Type 0 where
   pub slice : List ℕ
   pub delivery : CDelivery
 
--- nowhere
-abbrev pub dropped : CDelivery
-dropped = record {
+-- nowhere; and the call ended so many relayed addresses
+abbrev pub dropped : (ended : ℕ) → CDelivery
+dropped ended = record {
   to = record { client = nowhere; server = nowhere; stream = 0 };
   sends = 0;
   head_length = 0;
   padding = 0;
+  ended = ended;
 }
 
+abbrev pub nowhere_due : CDelivery
+nowhere_due = dropped 0
+
 -- a delivery, or that a datagram is dropped
-abbrev pub IsDelivery : Option Delivery → CDelivery → Type 0
-IsDelivery None held = held ≡ dropped
-IsDelivery (Some delivery) held =
-    HoldsTuple delivery.to held.to × ((held.sends ≡ 1)
-    × ((held.head_length ≡ delivery.head_length) × (held.padding ≡ delivery.padding)))
+abbrev pub IsDelivery : Option Delivery → (ended : ℕ) → CDelivery → Type 0
+IsDelivery None ended held = held ≡ dropped ended
+IsDelivery (Some delivery) ended held =
+    HoldsTuple delivery.to held.to × ((held.sends ≡ 1) × ((held.head_length ≡ delivery.head_length)
+    × ((held.padding ≡ delivery.padding) × (held.ended ≡ ended))))
 
 -- ---- The call
 
@@ -48,10 +51,9 @@ pub record Receives (core : TurnCore) (now relay n id : ℕ) (peer : Endpoint) (
     (before after : Delivered) : Type 0 where
   pub same : IsSameServer core new
   pub delivery : Option Delivery
-  pub receives : ReceivesBy (setup_in core) now relay peer n id
-      (record { state = core.server.state; slice = before.slice })
-      (record { state = new.server.state; slice = after.slice }) delivery
-  pub in_c : IsDelivery delivery after.delivery
+  pub receives : ReceivesBy (setup_in core) (rules_in core) now relay peer n id core.server new.server
+      before.slice after.slice delivery
+  pub in_c : IsDelivery delivery (length new.server.ended) after.delivery
 
 -- how many bytes a head has at most
 abbrev pub head_max : ℕ
@@ -80,14 +82,3 @@ TakesPeer now address relay n id result old new =
     (λ peer. MatchOption old.core
     (Refuses (plain BAD_ARGUMENT) result old new)
     (λ core. ReceivesIn core now relay n (number id.bytes) (endpoint_of peer) result old new))
-
--- ---- Time
-
--- what a poll of C closes: without a server nothing
-abbrev pub PollsInC : (now : ℕ) → (before : List ℕ) → (count : ℕ) → (after : List ℕ)
-    → (old new : Option TurnCore) → Type 0
-PollsInC now before count after old new =
-    MatchOption old
-    ((count ≡ 0) × ((after ≡ before) × (new ≡ None)))
-    (λ core. IsSomeAnd new (λ kept. IsSameServer core kept
-    × Polls core.server.state now before count after kept.server.state))

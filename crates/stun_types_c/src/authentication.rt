@@ -23,7 +23,7 @@ use stun_authentication::{
     Authentication, Identity, LongTermKeys, NonceState, Nonces, Policy, ShortTermKeys,
     authenticate_long_term, authenticate_short_term,
 };
-use stun_keys::keys::key_of_bytes;
+use stun_keys::keys::copy_key;
 use stun_types::attribute::PasswordAlgorithmValue;
 use stun_types::message::{IntegrityKey, Message};
 
@@ -81,7 +81,7 @@ fn copy_of(alloc: Global, key: Option<&IntegrityKey>) -> Result<Option<Integrity
     ensures { IfOk result (IsKeyOf (borrowed_of key.entry)) }
 {
     match key {
-        Some(key) => Ok(Some(key_of_bytes(alloc, key.as_bytes(), key.algorithm())?)),
+        Some(key) => Ok(Some(copy_key(alloc, key)?)),
         None => Ok(None),
     }
 }

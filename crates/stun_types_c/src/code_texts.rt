@@ -36,6 +36,8 @@ fn code_text(code: u32) -> &'static str
         codes::NO_ALGORITHM => "no password algorithm is supported",
         codes::SAME_CREDENTIALS => "the credentials were refused already",
         codes::HMAC_TOO_SHORT => "the HMAC is cut to too few bytes",
+        codes::FULL => "there is no room",
+        codes::OTHER_FAMILY => "the address is of another family",
         _ => "unknown code",
     }
 }

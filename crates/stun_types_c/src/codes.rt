@@ -50,3 +50,7 @@ pub const NO_ALGORITHM: u32 = 22;
 pub const SAME_CREDENTIALS: u32 = 23;
 /// The HMAC is right, and has fewer bytes than the policy asks for.
 pub const HMAC_TOO_SHORT: u32 = 24;
+/// There is no room for another one.
+pub const FULL: u32 = 25;
+/// The address is of another family than the relayed address.
+pub const OTHER_FAMILY: u32 = 26;

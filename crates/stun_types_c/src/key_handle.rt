@@ -1,9 +1,10 @@
 //! A key in the hands of C: `stun_types_key` of the header.
-ghost use Rattle.std.specs.Prelude.{◌≡◌, Some, None, is_some, option_map, box_value};
+ghost use Rattle.std.specs.Prelude.{◌≡◌, Some, is_some, box_value};
 ghost use Rattle.stun_types_c.specs.KeyMemory.{is_held};
 
-use crate::box_parts::BoxParts;
+use crate::handle::Handle;
 use crate::key_place::KeyPlace;
+use crate::place::Place;
 use std::alloc::Global;
 use stun_types::message::IntegrityKey;
 
@@ -33,37 +34,31 @@ pub struct KeyHandle {
     ghost tied: { is_held held ≡ is_some place.value },
 }
 
-impl KeyHandle {
-    ghost use Rattle.std.specs.Prelude.{◌≡◌, Some, None, option_map, box_value};
-    ghost use Rattle.stun_types_c.specs.KeyHandles.{held_key};
+impl Handle for KeyHandle {
+    type Value = IntegrityKey;
 
-    /// A handle that holds no key. It takes no memory.
-    pub fn none(alloc: Global) -> KeyHandle
-        ensures { held_key result ≡ None }
-    {
+    ghost held = { λ handle. handle.place.value };
+
+    fn none(alloc: Global) -> KeyHandle {
         KeyHandle {
-            place: KeyPlace::none(alloc),
+            place: KeyPlace::of(Place::none(alloc)),
             held: 0,
         }
     }
 
-    /// A handle that holds this key. Nothing is copied.
-    pub fn of(key: Box<IntegrityKey>) -> KeyHandle
-        ensures { held_key result ≡ Some (box_value key) }
+    fn of(key: Box<IntegrityKey>) -> KeyHandle
+        ensures { result.place.value ≡ Some (box_value key) }
     {
         KeyHandle {
-            place: KeyPlace::of(BoxParts::of(key)),
+            place: KeyPlace::of(Place::of(key)),
             held: HELD,
         }
     }
 
-    /// The key that the handle holds, or `None`. Nothing is copied.
-    fn into_box(self) -> Option<Box<IntegrityKey>>
-        ensures { option_map box_value result ≡ held_key self }
-    {
+    fn into_box(self) -> Option<Box<IntegrityKey>> {
         let KeyHandle { place, held } = self;
         if held == HELD {
-            Some(place.into_parts().into_box())
+            Some(place.into_place().into_box())
         } else {
             place.end();
             None

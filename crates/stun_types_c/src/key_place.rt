@@ -1,20 +1,20 @@
 //! The place of a key on the heap, in a form that C can store.
-ghost use Rattle.std.specs.Prelude.{◌≡◌, ◌≢◌, Option, Some, None};
+ghost use Rattle.std.specs.Prelude.{◌≡◌, Option, None};
 ghost use Rattle.stun_keys.specs.declared.keys.integrity_key.IntegrityKey.{IntegrityKey};
 
-use crate::box_parts::BoxParts;
+use crate::place::Place;
 use std::alloc::Global;
 use std::marker::{Model, Send};
-use std::ptr::null_mut;
 use stun_types::message::IntegrityKey;
 
 /// The address of a key, or no key. It owns the key: `value` is `None`, and it owns nothing, or it
 /// is the key at `at`, which nothing else owns or frees.
 ///
-/// A C function can't take a type that leads to a key, since a key may be written where it is
-/// shared. So the address is that of a byte. A `Global` takes no bytes: the struct is one pointer.
+/// A C function can't take a type with parameters, as [`Place`] is, nor one that leads to a key, since a
+/// key may be written where it is shared. So there is a type for each, and the address is that of a byte.
+/// A `Global` takes no bytes: the struct is one pointer.
 ///
-/// It isn't `Drop`: the owner must call `into_parts` if it holds a key, otherwise `end`.
+/// It isn't `Drop`: the owner must call `into_place` if it holds a key, otherwise `end`.
 #[repr(C)]
 pub(crate) struct KeyPlace {
     at: *mut u8,
@@ -24,46 +24,35 @@ pub(crate) struct KeyPlace {
 
 impl Model for KeyPlace {
     ghost use Rattle.stun_keys.specs.contracts.keys.integrity_key.IntegrityKey.{the_row};
-    ghost use Rattle.stun_types_c.specs.KeyMemory.{owns_if_some};
+    ghost use Rattle.stun_types_c.specs.KeyMemory.{frees, owns_if_some};
 
-    ghost also_owns = { λ place. owns_if_some place.alloc the_row place.at place.value };
+    ghost also_owns = { λ place. owns_if_some (frees place.alloc) the_row place.at place.value };
 }
 
 impl KeyPlace {
-    /// The place of no key, at the address 0.
-    pub(crate) fn none(alloc: Global) -> KeyPlace
-        ensures { result.value ≡ None }
+    /// The same place for C.
+    pub(crate) fn of(place: Place<IntegrityKey, Global>) -> KeyPlace
+        ensures { result.value ≡ place.value }
     {
-        KeyPlace {
-            at: null_mut(),
-            alloc,
-        }
-    }
-
-    /// The place of the key that a box held.
-    pub(crate) fn of(key: BoxParts<IntegrityKey, Global>) -> KeyPlace
-        ensures { result.value ≡ Some key.value }
-    {
-        let BoxParts { at, alloc } = key;
+        let Place { at, alloc } = place;
         KeyPlace {
             at: at as *mut u8,
             alloc,
         }
     }
 
-    /// The key that is here, as the parts of its box.
-    pub(crate) fn into_parts(self) -> BoxParts<IntegrityKey, Global>
-        requires { self.value ≢ None }
-        ensures { Some result.value ≡ self.value }
+    /// The place again.
+    pub(crate) fn into_place(self) -> Place<IntegrityKey, Global>
+        ensures { result.value ≡ self.value }
     {
         let KeyPlace { at, alloc } = self;
-        BoxParts {
+        Place {
             at: at as *mut IntegrityKey,
             alloc,
         }
     }
 
-    /// Ends the place of no key.
+    /// Ends the place of nothing.
     pub(crate) fn end(self)
         requires { self.value ≡ None }
     {

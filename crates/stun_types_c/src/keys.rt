@@ -10,8 +10,8 @@ ghost use Rattle.stun_types_c.specs.Credentials.{RefusesText, IsLongTerm, Refuse
 
 use crate::call_result::{CResult, counted, plain, write_result};
 use crate::codes;
+use crate::handle::{hold, release_all};
 use crate::key_handle::KeyHandle;
-use crate::key_store::{hold, release};
 use crate::password_algorithms::password_of;
 use crate::shared_key::SharedKey;
 use crate::values::text_in;
@@ -180,13 +180,11 @@ pub extern "C" fn stun_types_key_bytes(
 pub extern "C" fn stun_types_keys_free(alloc: Global, keys: &mut [KeyHandle])
     ensures { All (λ key. held_key key ≡ None) keys.new }
 {
-    for key in keys.iter_mut() {
-        release(key, alloc);
-    }
+    release_all(keys, alloc);
 }
 
 /// A text of C's bytes, in memory that `alloc` gives.
-fn text_of(alloc: Global, bytes: &[u8]) -> Result<String, CResult>
+pub(crate) fn text_of(alloc: Global, bytes: &[u8]) -> Result<String, CResult>
     ensures { MatchResult result
         (λ text. (is_utf8 bytes.now ≡ true) × (string_bytes text ≡ bytes.now))
         (RefusesText bytes.now) }

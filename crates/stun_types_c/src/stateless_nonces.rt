@@ -17,7 +17,7 @@ use crate::shared_key::SharedKey;
 use std::alloc::{AllocError, Global};
 use std::net::SocketAddr;
 use stun_authentication::{Freshness, NonceMaker, SECRET_MIN, SecurityFeatures};
-use stun_keys::keys::key_of_bytes;
+use stun_keys::keys::copy_key;
 use stun_types::message::IntegrityKey;
 
 /// A maker of nonces with a copy of a secret.
@@ -36,7 +36,7 @@ pub(crate) fn maker_of(
     if secret.as_bytes().len() < SECRET_MIN {
         return Err(plain(codes::BAD_ARGUMENT));
     }
-    let copy = match key_of_bytes(alloc, secret.as_bytes(), secret.algorithm()) {
+    let copy = match copy_key(alloc, secret) {
         Ok(copy) => copy,
         Err(AllocError) => return Err(plain(codes::OUT_OF_MEMORY)),
     };

@@ -13,7 +13,7 @@ ghost use Rattle.stun_transactions.specs.Retransmissions.{begun};
 ghost use Rattle.stun_types_c.specs.Transactions.{transport_numbered, mechanism_numbered, IsAt, Schedules, usage_named, Keeps, KeepsNone, AreSame, no_transaction, begun_in_c};
 
 mod beginning;
-mod kept;
+pub(crate) mod kept;
 mod receiving;
 mod sending;
 

@@ -34,10 +34,6 @@ pub struct CTurnReady {
     pub any_ipv6: Address,
     /// With an even port.
     pub even_ipv6: Address,
-    /// Whether the server has IPv4 to offer.
-    pub ipv4: u16,
-    /// Whether it has IPv6.
-    pub ipv6: u16,
 }
 
 /// The protocol number of UDP.
@@ -111,22 +107,27 @@ fn endpoint_in(address: &Address, family: u16) -> Option<Option<Endpoint>>
 }
 
 /// The sockets of a family that are ready.
-fn ready_of(family: u16, has: u16, any: &Address, even: &Address) -> Option<Option<Ready>>
-    ensures { result ≡ family_named family has any.now even.now }
+fn ready_of(family: u16, any: &Address, even: &Address) -> Option<Ready>
+    ensures { result ≡ family_named family any.now even.now }
 {
     let any = endpoint_in(any, family)?;
     let even = endpoint_in(even, family)?;
-    if has == 0 {
-        return Some(None);
-    }
-    Some(Some(Ready { any, even }))
+    Some(Ready {
+        any,
+        even,
+        pair: None,
+    })
 }
 
 /// The sockets that C has ready; `None` if one has an address of another family.
 pub(crate) fn sockets_of(ready: &CTurnReady) -> Option<Sockets>
     ensures { result ≡ sockets_named ready.now }
 {
-    let ipv4 = ready_of(4, ready.ipv4, &ready.any_ipv4, &ready.even_ipv4)?;
-    let ipv6 = ready_of(6, ready.ipv6, &ready.any_ipv6, &ready.even_ipv6)?;
-    Some(Sockets { ipv4, ipv6 })
+    let ipv4 = ready_of(4, &ready.any_ipv4, &ready.even_ipv4)?;
+    let ipv6 = ready_of(6, &ready.any_ipv6, &ready.even_ipv6)?;
+    Some(Sockets {
+        ipv4,
+        ipv6,
+        token: 0,
+    })
 }

@@ -1,21 +1,21 @@
 //! What the handle of a TURN server holds.
 
 use std::net::SocketAddr;
-use turn_peers::{Peers, Prefix};
+use turn_peers::{PeerRange, Peers};
 use turn_server::{Access, TurnServer};
 
 /// Which peers a server relays to.
 #[derive(Drop)]
 pub(crate) struct PeerRules {
-    /// The prefixes that are denied.
-    pub(crate) denied: Vec<Prefix>,
+    /// The peers that are denied.
+    pub(crate) denied: Vec<PeerRange>,
     /// Those that are allowed.
-    pub(crate) allowed: Vec<Prefix>,
+    pub(crate) allowed: Vec<PeerRange>,
     /// The addresses that clients send to.
     pub(crate) listening: Vec<SocketAddr>,
 }
 
-/// A TURN server, with what C sets once.
+/// A TURN server, with what C sets.
 #[derive(Drop)]
 pub struct TurnCore {
     /// The allocations.

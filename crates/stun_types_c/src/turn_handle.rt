@@ -1,8 +1,9 @@
 //! A TURN server in the hands of C: `stun_types_turn` of the header.
-ghost use Rattle.std.specs.Prelude.{◌≡◌, Some, None, is_some, option_map, box_value};
+ghost use Rattle.std.specs.Prelude.{◌≡◌, Some, is_some, box_value};
 ghost use Rattle.stun_types_c.specs.TurnMarks.{holds_turn};
 
-use crate::box_parts::BoxParts;
+use crate::handle::Handle;
+use crate::place::Place;
 use crate::turn_core::TurnCore;
 use crate::turn_place::TurnPlace;
 use std::alloc::Global;
@@ -22,37 +23,31 @@ pub struct CTurn {
     ghost tied: { holds_turn held ≡ is_some place.value },
 }
 
-impl CTurn {
-    ghost use Rattle.std.specs.Prelude.{◌≡◌, Some, None, option_map, box_value};
-    ghost use Rattle.stun_types_c.specs.TurnHandles.{held_turn};
+impl Handle for CTurn {
+    type Value = TurnCore;
 
-    /// A handle that holds no server. It takes no memory.
-    pub fn none(alloc: Global) -> CTurn
-        ensures { held_turn result ≡ None }
-    {
+    ghost held = { λ handle. handle.place.value };
+
+    fn none(alloc: Global) -> CTurn {
         CTurn {
-            place: TurnPlace::none(alloc),
+            place: TurnPlace::of(Place::none(alloc)),
             held: 0,
         }
     }
 
-    /// A handle that holds this server. Nothing is copied.
-    pub(crate) fn of(core: Box<TurnCore>) -> CTurn
-        ensures { held_turn result ≡ Some (box_value core) }
+    fn of(core: Box<TurnCore>) -> CTurn
+        ensures { result.place.value ≡ Some (box_value core) }
     {
         CTurn {
-            place: TurnPlace::of(BoxParts::of(core)),
+            place: TurnPlace::of(Place::of(core)),
             held: HELD,
         }
     }
 
-    /// The server that the handle holds, or `None`. Nothing is copied.
-    pub(crate) fn into_box(self) -> Option<Box<TurnCore>>
-        ensures { option_map box_value result ≡ held_turn self }
-    {
+    fn into_box(self) -> Option<Box<TurnCore>> {
         let CTurn { place, held } = self;
         if held == HELD {
-            Some(place.into_parts().into_box())
+            Some(place.into_place().into_box())
         } else {
             place.end();
             None

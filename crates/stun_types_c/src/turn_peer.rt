@@ -1,19 +1,20 @@
-//! What a TURN server does for a peer's datagram, and for the time.
+//! What a TURN server does for a peer's datagram.
 
 ghost use Rattle.std.specs.Prelude.{◌≡◌, Some};
-ghost use Rattle.turn_table.specs.Polls.{Polls};
+ghost use Rattle.turn_server.specs.Delivering.{Receives as ReceivesBy};
 ghost use Rattle.stun_types_c.specs.TurnClients.{IsSameServer};
 ghost use Rattle.stun_types_c.specs.TurnHandles.{held_turn};
-ghost use Rattle.stun_types_c.specs.TurnPeers.{dropped, IsDelivery, Receives, ReceivesIn, TakesPeer, PollsInC};
+ghost use Rattle.stun_types_c.specs.TurnPeers.{dropped, nowhere_due, IsDelivery, Receives, ReceivesIn, TakesPeer};
+ghost use Rattle.stun_types_c.specs.TurnServers.{rules_in, setup_in};
 
 use crate::address::{Address, socket_of};
 use crate::call_result::{CResult, counted, plain};
 use crate::codes;
+use crate::handle::{put, take};
 use crate::reading::Id;
 use crate::turn_addresses::{CFiveTuple, NOWHERE, tuple_in_c};
 use crate::turn_core::TurnCore;
 use crate::turn_handle::CTurn;
-use crate::turn_store::{put, take};
 use std::alloc::Global;
 use stun_endpoints::Endpoint;
 use stun_types::message::TransactionId;
@@ -31,11 +32,13 @@ pub struct CDelivery {
     pub head_length: u16,
     /// How many zeros follow it.
     pub padding: u16,
+    /// How many relayed addresses the call ended.
+    pub ended: usize,
 }
 
 /// It is dropped.
-fn dropped() -> CDelivery
-    ensures { result ≡ dropped }
+fn dropped(ended: usize) -> CDelivery
+    ensures { result ≡ dropped ended }
 {
     CDelivery {
         to: CFiveTuple {
@@ -46,6 +49,7 @@ fn dropped() -> CDelivery
         sends: 0,
         head_length: 0,
         padding: 0,
+        ended,
     }
 }
 
@@ -53,8 +57,8 @@ fn dropped() -> CDelivery
 const HEAD: usize = 48;
 
 /// What C does for a delivery, or a datagram that is dropped.
-fn in_c(delivery: Option<Delivery>) -> CDelivery
-    ensures { IsDelivery delivery result }
+fn in_c(delivery: Option<Delivery>, ended: usize) -> CDelivery
+    ensures { IsDelivery delivery ended result }
 {
     match delivery {
         Some(delivery) => CDelivery {
@@ -62,9 +66,29 @@ fn in_c(delivery: Option<Delivery>) -> CDelivery
             sends: 1,
             head_length: delivery.head_length,
             padding: delivery.padding,
+            ended,
         },
-        None => dropped(),
+        None => dropped(ended),
     }
+}
+
+/// Takes a peer's datagram: what `TurnServer` does for it.
+fn take_datagram(
+    core: &mut TurnCore,
+    now: u64,
+    relay: u64,
+    peer: Endpoint,
+    data_length: usize,
+    id: TransactionId,
+    head: &mut [u8],
+) -> Option<Delivery>
+    ensures receives { ReceivesBy (setup_in core.old) (rules_in core.old) now relay peer data_length id
+        core.old.server core.new.server head.old head.new result }
+    ensures same { IsSameServer core.old core.new }
+{
+    let peers = core.rules.peers();
+    core.server
+        .on_peer_datagram(now, relay, peer, data_length, id, &peers, head)
 }
 
 /// Takes a peer's datagram, and writes what comes before its data.
@@ -82,10 +106,8 @@ fn receive(
         (record { slice = head.old; delivery = delivery.old })
         (record { slice = head.new; delivery = delivery.new }) }
 {
-    let to = core
-        .server
-        .on_peer_datagram(now, relay, peer, data_length, id, head);
-    *delivery = in_c(to);
+    let to = take_datagram(core, now, relay, peer, data_length, id, head);
+    *delivery = in_c(to, core.server.ended().len());
 }
 
 /// The same, if there is room for any head.
@@ -130,10 +152,10 @@ pub extern "C" fn stun_types_turn_peer(
     delivery: &mut CDelivery,
 ) -> CResult
     ensures { TakesPeer now peer.now relay data_length id.now result
-        (record { core = held_turn server.old; delivered = record { slice = head.old; delivery = dropped } })
+        (record { core = held_turn server.old; delivered = record { slice = head.old; delivery = nowhere_due } })
         (record { core = held_turn server.new; delivered = record { slice = head.new; delivery = delivery.new } }) }
 {
-    *delivery = dropped();
+    *delivery = dropped(0);
     let Some(peer) = socket_of(peer) else {
         return plain(codes::BAD_ARGUMENT);
     };
@@ -145,30 +167,4 @@ pub extern "C" fn stun_types_turn_peer(
     let result = receive_in(&mut core, now, relay, peer, data_length, id, head, delivery);
     put(server, core);
     result
-}
-
-/// Ends allocations whose time is over.
-fn close(core: &mut TurnCore, now: u64, ended: &mut [u64]) -> usize
-    ensures same { IsSameServer core.old core.new }
-    ensures polls { Polls core.old.server.state now ended.old result ended.new core.new.server.state }
-{
-    core.server.poll(now, ended)
-}
-
-/// Ends allocations whose time is over.
-#[unsafe(no_mangle)]
-pub extern "C" fn stun_types_turn_poll(
-    alloc: Global,
-    server: &mut CTurn,
-    now: u64,
-    ended: &mut [u64],
-) -> usize
-    ensures { PollsInC now ended.old result ended.new (held_turn server.old) (held_turn server.new) }
-{
-    let Some(mut core) = take(server, alloc) else {
-        return 0;
-    };
-    let count = close(&mut core, now, ended);
-    put(server, core);
-    count
 }

@@ -1,40 +1,66 @@
 //! Making a TURN server, and ending it.
 
-ghost use Rattle.std.specs.Prelude.{◌≡◌, ◌≤◌, ◌⊎◌, ◌==◌, true, false, length, drop, map, is_some, Some, None, All, IfOk, IsSomeAnd, MatchResult, MatchOption, box_value};
+ghost use Rattle.std.specs.Prelude.{◌≡◌, ◌<◌, ◌≤◌, ◌^◌, ◌⊎◌, ◌==◌, true, false, length, drop, map, is_some, Some, None, [], All, IfOk, IsSomeAnd, MatchResult, MatchOption, box_value};
 ghost use Rattle.std.specs.List.{list_all};
 ghost use Rattle.std.specs.Option.{option_map, option_or};
 ghost use Rattle.stun_attributes.specs.Texts.{text_bytes};
 ghost use Rattle.stun_keys.specs.Keys.{key_bytes};
 ghost use Rattle.stun_authentication.specs.Nonces.{minting, minting_of};
-ghost use Rattle.turn_table.specs.Runs.{begun};
+ghost use Rattle.turn_machine.specs.Runs.{initial_state};
 ghost use Rattle.stun_types_c.specs.Addresses.{socket_named};
 ghost use Rattle.stun_types_c.specs.CResults.{plain};
 ghost use Rattle.stun_types_c.specs.Codes.{OUT_OF_MEMORY, BAD_ARGUMENT};
 ghost use Rattle.stun_types_c.specs.KeyHandles.{shared_key};
 ghost use Rattle.stun_types_c.specs.Refusals.{text_answer};
 ghost use Rattle.stun_types_c.specs.TurnHandles.{held_turn};
-ghost use Rattle.stun_types_c.specs.TurnMaking.{settings_named, limits_named, is_whole, prefix_named, all_named, key_answer, access_answer, rules_answer, making_answer, software_named, IsAccess, AreRules, IsMade, Makes};
+ghost use Rattle.stun_types_c.specs.TurnMaking.{settings_named, limits_named, default_limits, is_whole, prefix_named, with_ports, range_named, all_named, key_answer, access_answer, rules_answer, making_answer, software_named, IsAccess, AreRules, IsMade, Makes};
 ghost use Rattle.stun_types_c.specs.Versions.{no_key};
 
 use crate::address::{Address, socket_of};
 use crate::authentication::{CPolicy, policy_of};
 use crate::call_result::{CResult, plain, write_result};
 use crate::codes;
+use crate::handle::{put, release_all};
 use crate::refusals::{features_of, realm_of};
 use crate::shared_key::SharedKey;
 use crate::stateless_nonces::maker_of;
 use crate::turn_core::{PeerRules, TurnCore};
 use crate::turn_handle::CTurn;
-use crate::turn_store::{put, release};
 use crate::values::text_in;
 use crate::versions::NoKey;
 use std::alloc::{AllocError, Global};
 use std::net::SocketAddr;
 use stun_authentication::{NonceMaker, Policy, SecurityFeatures};
 use stun_types::attribute::Software;
-use turn_peers::Prefix;
+use turn_allocations::{Families, Limits};
+use turn_peers::{PeerRange, Prefix};
 use turn_server::{Access, TurnServer};
-use turn_table::Limits;
+
+/// The bounds of a TURN server, and what it can do, as C sets them.
+#[repr(C)]
+#[derive(Clone, Copy, Drop)]
+pub struct CTurnLimits {
+    /// The most relayed addresses.
+    pub relays: u32,
+    /// The most of one user.
+    pub relays_per_user: u32,
+    /// The most sockets that are reserved.
+    pub reservations: u32,
+    /// The greatest lifetime in seconds.
+    pub greatest_lifetime: u32,
+    /// Not 0: it relays IPv4.
+    pub ipv4: u16,
+    /// Not 0: it relays IPv6.
+    pub ipv6: u16,
+    /// Not 0: the program can set the DF bit.
+    pub dont_fragment: u16,
+    /// Not 0: ICMP packets are relayed.
+    pub icmp: u16,
+    /// Not 0: the permission of a ChannelBind lasts as long as the channel.
+    pub channel_permits: u16,
+    /// Not 0: channels of RFC 5766 are allowed too.
+    pub old_channels: u16,
+}
 
 /// What a TURN server is made by, as C sets it.
 #[repr(C)]
@@ -42,27 +68,19 @@ use turn_table::Limits;
 pub struct CTurnSettings<'a> {
     /// For how many seconds a nonce is valid.
     pub window: u64,
-    /// What keys the hash of 5-tuples.
+    /// What keys the hashes of clients and users.
     pub seed: [u64; 2],
     /// Which requests are taken.
     pub policy: CPolicy,
-    /// How many allocations there are at most.
-    pub allocations: u32,
-    /// The most live allocations of one user.
-    pub of_user: u32,
-    /// The maximum lifetime in seconds.
-    pub greatest_lifetime: u32,
+    /// Its bounds, and what it can do.
+    pub limits: CTurnLimits,
     /// The number of the features that a nonce promises.
     pub features: u32,
-    /// Not 0: a channel permits its peer.
-    pub channel_permits: u32,
-    /// Not 0: channels of RFC 5766 are allowed too.
-    pub old_channels: u32,
     /// The text of the realm of its users.
     pub realm: &'a [u8],
     /// The text of the SOFTWARE of responses, or no bytes.
     pub software: &'a [u8],
-    /// The prefixes of the peers that are denied.
+    /// The peers that are denied.
     pub denied: &'a [CPrefix],
     /// Those that are allowed.
     pub allowed: &'a [CPrefix],
@@ -72,7 +90,7 @@ pub struct CTurnSettings<'a> {
     pub reserved: u64,
 }
 
-/// A prefix of addresses.
+/// A prefix of addresses, and ports.
 #[repr(C)]
 #[derive(Clone, Copy, Drop)]
 pub struct CPrefix {
@@ -80,6 +98,30 @@ pub struct CPrefix {
     pub address: Address,
     /// How many bits the prefix has.
     pub length: u16,
+    /// The first port.
+    pub first_port: u16,
+    /// The last port; 0: it has all ports.
+    pub last_port: u16,
+}
+
+/// The limits that are recommended: those of `Limits::default`.
+#[unsafe(no_mangle)]
+pub extern "C" fn stun_types_turn_limits_default() -> CTurnLimits
+    ensures { result ≡ default_limits }
+{
+    let limits = Limits::default();
+    CTurnLimits {
+        relays: limits.relays,
+        relays_per_user: limits.relays_per_user,
+        reservations: limits.reservations,
+        greatest_lifetime: limits.greatest_lifetime,
+        ipv4: u16::from(limits.families.ipv4),
+        ipv6: u16::from(limits.families.ipv6),
+        dont_fragment: u16::from(limits.dont_fragment),
+        icmp: u16::from(limits.icmp),
+        channel_permits: u16::from(limits.channel_permits),
+        old_channels: u16::from(limits.old_channels),
+    }
 }
 
 /// A handle that holds no server, as C declares it: the words of `CTurn`.
@@ -95,9 +137,7 @@ pub extern "C" fn stun_types_turn_none() -> NoKey
 pub extern "C" fn stun_types_turns_free(alloc: Global, servers: &mut [CTurn])
     ensures { All (λ server. held_turn server ≡ None) servers.new }
 {
-    for server in servers.iter_mut() {
-        release(server, alloc);
-    }
+    release_all(servers, alloc);
 }
 
 /// Whether all octets are 0.
@@ -133,25 +173,50 @@ fn prefix_of(named: &CPrefix) -> Option<Prefix>
     Prefix::new(address.ip(), named.length as u8).ok()
 }
 
-/// The prefixes that C's forms name.
-fn prefixes_of(alloc: Global, named: &[CPrefix]) -> Result<Vec<Prefix>, CResult>
+/// The ports of C's form, of a prefix.
+fn with_ports(named: &CPrefix, prefix: Prefix) -> PeerRange
+    ensures { result ≡ with_ports named.now prefix }
+{
+    if named.last_port == 0 {
+        PeerRange::from(prefix)
+    } else {
+        PeerRange {
+            prefix,
+            first_port: named.first_port,
+            last_port: named.last_port,
+        }
+    }
+}
+
+/// The peers that C's form names.
+fn range_of(named: &CPrefix) -> Option<PeerRange>
+    ensures { result ≡ range_named named.now }
+{
+    if named.first_port > named.last_port {
+        return None;
+    }
+    Some(with_ports(named, prefix_of(named)?))
+}
+
+/// The peers that C's forms name.
+fn ranges_of(alloc: Global, named: &[CPrefix]) -> Result<Vec<PeerRange>, CResult>
     ensures { MatchResult result
-        (λ each. (all_named prefix_named named.now ≡ true)
-        × (map prefix_named named.now ≡ map Some each.items))
-        (λ answer. ((all_named prefix_named named.now ≡ false) × (answer ≡ plain BAD_ARGUMENT))
+        (λ each. (all_named range_named named.now ≡ true)
+        × (map range_named named.now ≡ map Some each.items))
+        (λ answer. ((all_named range_named named.now ≡ false) × (answer ≡ plain BAD_ARGUMENT))
         ⊎ (answer ≡ plain OUT_OF_MEMORY)) }
 {
-    let mut prefixes = Vec::new(alloc);
+    let mut ranges = Vec::new(alloc);
     for i in 0..named.len() {
-        let Some(prefix) = prefix_of(&named[i]) else {
+        let Some(range) = range_of(&named[i]) else {
             return Err(plain(codes::BAD_ARGUMENT));
         };
-        match prefixes.push(prefix).map_err(AllocError::from) {
+        match ranges.push(range).map_err(AllocError::from) {
             Ok(()) => {}
             Err(AllocError) => return Err(plain(codes::OUT_OF_MEMORY)),
         }
     }
-    Ok(prefixes)
+    Ok(ranges)
 }
 
 /// The addresses that C's forms name.
@@ -176,13 +241,13 @@ fn addresses_of(alloc: Global, named: &[Address]) -> Result<Vec<SocketAddr>, CRe
 }
 
 /// The rules of what C passes.
-fn rules_of(alloc: Global, settings: &CTurnSettings<'_>) -> Result<PeerRules, CResult>
+pub(crate) fn rules_of(alloc: Global, settings: &CTurnSettings<'_>) -> Result<PeerRules, CResult>
     ensures { MatchResult result
         (λ rules. (rules_answer settings.now ≡ None) × AreRules settings.now rules)
         (λ answer. (rules_answer settings.now ≡ Some answer) ⊎ (answer ≡ plain OUT_OF_MEMORY)) }
 {
-    let denied = prefixes_of(alloc, settings.denied)?;
-    let allowed = prefixes_of(alloc, settings.allowed)?;
+    let denied = ranges_of(alloc, settings.denied)?;
+    let allowed = ranges_of(alloc, settings.allowed)?;
     let listening = addresses_of(alloc, settings.listening)?;
     Ok(PeerRules {
         denied,
@@ -192,7 +257,7 @@ fn rules_of(alloc: Global, settings: &CTurnSettings<'_>) -> Result<PeerRules, CR
 }
 
 /// The SOFTWARE of C's bytes, or none of no bytes.
-fn software_of(alloc: Global, bytes: &[u8]) -> Result<Option<Software>, CResult>
+pub(crate) fn software_of(alloc: Global, bytes: &[u8]) -> Result<Option<Software>, CResult>
     ensures { MatchResult result
         (λ software. (text_answer bytes.now ≡ None)
         × (option_map text_bytes software ≡ software_named bytes.now))
@@ -230,11 +295,14 @@ fn maker_with(
     }
 }
 
-/// The policy and the features of the settings.
+/// How many relayed addresses a server has at most, and one more.
+const MOST_RELAYS: u32 = 1 << 24;
+
+/// The policy and the features of the settings, if their numbers are in range.
 fn checked(settings: &CTurnSettings<'_>) -> Option<(Policy, SecurityFeatures)>
     ensures { result ≡ settings_named settings.now }
 {
-    if settings.reserved != 0 {
+    if settings.reserved != 0 || settings.limits.relays >= MOST_RELAYS {
         return None;
     }
     let policy = policy_of(&settings.policy)?;
@@ -265,19 +333,27 @@ fn access_of(
         realm,
         policy,
         software,
+        alternate: None,
     })
 }
 
-/// The bounds of the settings.
-fn limits_of(settings: &CTurnSettings<'_>) -> Limits
-    ensures { result ≡ limits_named settings.now }
+/// The limits that C passes.
+pub(crate) fn limits_of(named: &CTurnLimits) -> Limits
+    ensures { result ≡ limits_named named.now }
 {
     Limits {
-        allocations: settings.allocations,
-        of_user: settings.of_user,
-        greatest_lifetime: settings.greatest_lifetime,
-        channel_permits: settings.channel_permits != 0,
-        old_channels: settings.old_channels != 0,
+        relays: named.relays,
+        relays_per_user: named.relays_per_user,
+        reservations: named.reservations,
+        greatest_lifetime: named.greatest_lifetime,
+        families: Families {
+            ipv4: named.ipv4 != 0,
+            ipv6: named.ipv6 != 0,
+        },
+        dont_fragment: named.dont_fragment != 0,
+        icmp: named.icmp != 0,
+        channel_permits: named.channel_permits != 0,
+        old_channels: named.old_channels != 0,
     }
 }
 
@@ -288,13 +364,19 @@ fn core_of(
     access: Access,
     rules: PeerRules,
 ) -> Result<Box<TurnCore>, AllocError>
+    requires { settings.now.limits.relays < 2 ^ 24 }
     ensures { IfOk result (λ boxed. box_value boxed ≡ record {
-      server = record { limits = limits_named settings.now; state = begun };
+      server = record {
+        limits = limits_named settings.now.limits;
+        holding = record { state = initial_state; held = [] };
+        ended = [];
+        over = [];
+      };
       access = access;
       rules = rules;
     }) }
 {
-    let server = TurnServer::new(alloc, limits_of(settings), settings.seed)?;
+    let server = TurnServer::new(alloc, limits_of(&settings.limits), settings.seed)?;
     let core = TurnCore {
         server,
         access,

@@ -18,7 +18,7 @@ use crate::shared_key::SharedKey;
 use std::alloc::{AllocError, Global};
 use stun_authentication::{Policy, has_least_length};
 use stun_grammar::attribute_types::FINGERPRINT;
-use stun_keys::keys::key_of_bytes;
+use stun_keys::keys::{copy_key, key_of_bytes};
 use stun_types::attribute::{
     AttributeStaticType, Fingerprint, MessageIntegrity, MessageIntegritySha256,
 };
@@ -124,7 +124,7 @@ fn verdict_for(
     ensures { IfOk result (λ verdict.
         verdict ≡ verdict_of (Some algorithm) key.now (message_bytes message.now)) }
 {
-    let copy = key_of_bytes(alloc, key.as_bytes(), Some(algorithm))?;
+    let copy = copy_key(alloc, key)?.made_for(Some(algorithm));
     Ok(message.validate_integrity_with_key(&copy))
 }
 

@@ -103,41 +103,41 @@ opens_it has old new its limit None some none few room last = absurd (elim none.
 
 -- ---- One family
 
-module _ (setup : Setup) (tuple : FiveTuple) (user id until : ℕ) where
-  pub opens_append : (some others : List MachineWant) (s : State) → opens setup tuple user id until (some ++ others) s ≡ opens setup tuple user id until others (opens setup tuple user id until some s)
+module _ (setup : Setup) (tuple : FiveTuple) (user id expires_at : ℕ) where
+  pub opens_append : (some others : List MachineWant) (s : State) → opens setup tuple user id expires_at (some ++ others) s ≡ opens setup tuple user id expires_at others (opens setup tuple user id expires_at some s)
   opens_append [] others s = refl
-  opens_append (w ∷ some) others s = opens_append some others (opens_one setup tuple user id until w s)
+  opens_append (w ∷ some) others s = opens_append some others (opens_one setup tuple user id expires_at w s)
 
   -- the state stays, or has one relayed address more
-  opens_cases : (is_open : Bool) (family number : ℕ) (want : Want) (s : State) (P : State → Type 0) → P s → ((offer : Offer) → P (with_relay tuple user id until family s offer))
-      → P (opens setup tuple user id until (wants_in is_open family number want) s)
+  opens_cases : (is_open : Bool) (family number : ℕ) (want : Want) (s : State) (P : State → Type 0) → P s → ((offer : Offer) → P (with_relay tuple user id expires_at family s offer))
+      → P (opens setup tuple user id expires_at (wants_in is_open family number want) s)
   opens_cases is_open family number No s P same more = same
   opens_cases is_open family number Unready s P same more =
       cond_both (can_open setup tuple user (record { family = family; ready = None }) s) s s P (λ _. same) (λ _. same)
   opens_cases true family number (Ready address) s P same more =
       let offer : Offer = record { number = number; address = address } in
-      cond_both (can_open setup tuple user (record { family = family; ready = Some offer }) s) (with_relay tuple user id until family s offer) s P (λ _. more offer) (λ _. same)
+      cond_both (can_open setup tuple user (record { family = family; ready = Some offer }) s) (with_relay tuple user id expires_at family s offer) s P (λ _. more offer) (λ _. same)
   opens_cases false family number (Ready address) s P same more =
       cond_both (can_open setup tuple user (record { family = family; ready = None }) s) s s P (λ _. same) (λ _. same)
 
   -- another family's is found as before
   pub number_stays : (is_open : Bool) (family other number : ℕ) (want : Want) (s : State) → (family == other) ≡ false
-      → number_to tuple other (opens setup tuple user id until (wants_in is_open family number want) s) ≡ number_to tuple other s
+      → number_to tuple other (opens setup tuple user id expires_at (wants_in is_open family number want) s) ≡ number_to tuple other s
   number_stays is_open family other number want s apart =
       opens_cases is_open family number want s (λ after. number_to tuple other after ≡ number_to tuple other s) refl
       (λ offer. ap (λ (o : Option Relay). option_map_or (λ a. a.number) o 0)
-      (cond-false (is_tuple tuple tuple && (family == other)) (Some (record { tuple = tuple; user = user; opened_by = id; family = family; number = number_for s offer; address = offer.address; until = until; permissions = []; channels = [] })) (find (is_for tuple other) s.relays)
+      (cond-false (is_tuple tuple tuple && (family == other)) (Some (record { tuple = tuple; user = user; transaction_id = id; family = family; number = number_for s offer; address = offer.address; expires_at = expires_at; permissions = []; channels = [] })) (find (is_for tuple other) s.relays)
       (and_right (is_tuple tuple tuple) (family == other) apart)))
 
   -- the client can't have one: nothing is opened
   barred_opens : (family number : ℕ) (address : Endpoint) (s : State)
       → can_open setup tuple user (record { family = family; ready = Some (record { number = number; address = address }) }) s ≡ false
-      → opens setup tuple user id until (wants_in true family number (Ready address)) s ≡ s
+      → opens setup tuple user id expires_at (wants_in true family number (Ready address)) s ≡ s
   barred_opens family number address s cannot =
       cond-false (can_open setup tuple user (record { family = family; ready = Some (record { number = number; address = address }) }) s)
-      (with_relay tuple user id until family s (record { number = number; address = address })) s cannot
+      (with_relay tuple user id expires_at family s (record { number = number; address = address })) s cannot
 
-  stays_of : (family : ℕ) (want : Want) (t : Table) → ((number : ℕ) → opens setup tuple user id until (wants_in true family number want) (state_of t) ≡ state_of t) → OpensOf setup tuple user id until family want t t
+  stays_of : (family : ℕ) (want : Want) (t : Table) → ((number : ℕ) → opens setup tuple user id expires_at (wants_in true family number want) (state_of t) ≡ state_of t) → OpensOf setup tuple user id expires_at family want t t
   stays_of family want t same = record {
     state_is = sym (same (number_to tuple family (state_of t)));
     slots = refl;
@@ -145,9 +145,9 @@ module _ (setup : Setup) (tuple : FiveTuple) (user id until : ℕ) where
     openings = omega arith;
   }
 
-  pub barred_of : (family : ℕ) (want : Want) (address : Endpoint) (t : Table) → want ≡ Ready address → ((ready : Option Offer) → can_open setup tuple user (record { family = family; ready = ready }) (state_of t) ≡ false) → OpensOf setup tuple user id until family want t t
+  pub barred_of : (family : ℕ) (want : Want) (address : Endpoint) (t : Table) → want ≡ Ready address → ((ready : Option Offer) → can_open setup tuple user (record { family = family; ready = ready }) (state_of t) ≡ false) → OpensOf setup tuple user id expires_at family want t t
   barred_of family want address t is cannot =
-      subst (λ (w : Want). OpensOf setup tuple user id until family w t t) (sym is)
+      subst (λ (w : Want). OpensOf setup tuple user id expires_at family w t t) (sym is)
       (stays_of family (Ready address) t (λ number. barred_opens family number address (state_of t) (cannot (Some (record { number = number; address = address })))))
 
   ip_is_itself : (a : Ip) → is_ip a a ≡ true
@@ -163,9 +163,9 @@ module _ (setup : Setup) (tuple : FiveTuple) (user id until : ℕ) where
 
   module _ (follows : ListFollowsSlots) (family : ℕ) (address : Endpoint) (old new : Table) (n slot : ℕ)
       (below : Each old (λ r. r.number < old.next))
-      (o : Opens slot (opened (record { tuple = tuple; family = family }) user id address until n) old new) where
+      (o : Opens slot (opened (record { tuple = tuple; family = family }) user id address expires_at n) old new) where
     abbrev its : ℕ → Relay
-    its m = opened (record { tuple = tuple; family = family }) user id address until m
+    its m = opened (record { tuple = tuple; family = family }) user id address expires_at m
 
     listed_is : listed new.slots ≡ its n ∷ listed old.slots
     listed_is =
@@ -189,38 +189,38 @@ module _ (setup : Setup) (tuple : FiveTuple) (user id until : ℕ) where
         ∙ ap (λ (r : Option Relay). option_map_or (λ a. a.number) r 0) (cond-true (is_for tuple family (its n)) (Some (its n)) (find (is_for tuple family) (listed old.slots)) is_its)
 
     opened_state : can_open setup tuple user (record { family = family; ready = Some (record { number = n; address = address }) }) (state_of old) ≡ true
-        → state_of new ≡ opens setup tuple user id until (wants_in true family n (Ready address)) (state_of old)
+        → state_of new ≡ opens setup tuple user id expires_at (wants_in true family n (Ready address)) (state_of old)
     opened_state can =
         state_after
         ∙ (ap (λ (m : ℕ). record { clock = old.clock; next = m + 1; relays = its m ∷ listed old.slots }) (sym (max-eq_right {n = old.next} {m = n} o.number))
         ∙ sym (cond-true (can_open setup tuple user (record { family = family; ready = Some (record { number = n; address = address }) }) (state_of old))
-        (with_relay tuple user id until family (state_of old) (record { number = n; address = address })) (state_of old) can))
+        (with_relay tuple user id expires_at family (state_of old) (record { number = n; address = address })) (state_of old) can))
 
-    pub opened_of : ((ready : Option Offer) → can_open setup tuple user (record { family = family; ready = ready }) (state_of old) ≡ true) → OpensOf setup tuple user id until family (Ready address) old new
+    pub opened_of : ((ready : Option Offer) → can_open setup tuple user (record { family = family; ready = ready }) (state_of old) ≡ true) → OpensOf setup tuple user id expires_at family (Ready address) old new
     opened_of can = record {
       state_is =
           opened_state (can (Some (record { number = n; address = address })))
-          ∙ ap (λ (m : ℕ). opens setup tuple user id until (wants_in true family m (Ready address)) (state_of old)) (sym number_after);
+          ∙ ap (λ (m : ℕ). opens setup tuple user id expires_at (wants_in true family m (Ready address)) (state_of old)) (sym number_after);
       slots = ap (λ (t : Table). length t.slots) o.state ∙ length-set old.slots slot (Some (its n));
       clock = ap (λ (t : Table). t.clock) o.state;
       openings = let e = ap (λ (t : Table). t.openings) o.state in omega (arith, e);
     }
 
-    pub opened_sound : AreSound old → ((family == 1) || (family == 2)) ≡ true → until ≤ old.clock + seconds lifetime_max → AreSound new
+    pub opened_sound : AreSound old → ((family == 1) || (family == 2)) ≡ true → expires_at ≤ old.clock + seconds lifetime_max → AreSound new
     opened_sound sound is_family soon =
         subst (λ (rs : List Relay). AllByRecursion (λ r. is_sound new.clock r ≡ true) rs) (sym listed_is)
         (subst (λ (clock : ℕ). AllByRecursion (λ r. is_sound clock r ≡ true) (its n ∷ listed old.slots)) (sym (ap (λ (t : Table). t.clock) o.state))
-        (and_from ((family == 1) || (family == 2)) (nat_le until (old.clock + seconds lifetime_max)) is_family (le_is until (old.clock + seconds lifetime_max) soon), sound))
+        (and_from ((family == 1) || (family == 2)) (nat_le expires_at (old.clock + seconds lifetime_max)) is_family (le_is expires_at (old.clock + seconds lifetime_max) soon), sound))
       where
         le_is : (a b : ℕ) → a ≤ b → nat_le a b ≡ true
         le_is a b le = search rules
 
 -- ---- Both families
 
-module _ (setup : Setup) (tuple : FiveTuple) (user id lifetime : ℕ) (wants : Families Want) (old mid new : Table) (until : ℕ) (a : Answer)
-    (until_is : until ≡ old.clock + seconds lifetime)
-    (first : OpensOf setup tuple user id until 1 wants.ipv4 old mid)
-    (second : OpensOf setup tuple user id until 2 wants.ipv6 mid new)
+module _ (setup : Setup) (tuple : FiveTuple) (user id lifetime : ℕ) (wants : Families Want) (old mid new : Table) (expires_at : ℕ) (a : Answer)
+    (until_is : expires_at ≡ old.clock + seconds lifetime)
+    (first : OpensOf setup tuple user id expires_at 1 wants.ipv4 old mid)
+    (second : OpensOf setup tuple user id expires_at 2 wants.ipv6 mid new)
     (shown : numbers_in a ≡ record { ipv4 = number_to tuple 1 (state_of new); ipv6 = number_to tuple 2 (state_of new) })
     (answer_is : answer_of a ≡ allocation_answer setup tuple lifetime (wants_of true (numbers_in a) wants) (state_of new)) where
   -- one family after the other, with the numbers that the answer shows
@@ -228,19 +228,19 @@ module _ (setup : Setup) (tuple : FiveTuple) (user id lifetime : ℕ) (wants : F
   first_number =
       ap (λ (n : Families ℕ). n.ipv4) shown
       ∙ (ap (number_to tuple 1) second.state_is
-      ∙ number_stays setup tuple user id until true 2 1 (number_to tuple 2 (state_of new)) wants.ipv6 (state_of mid) refl)
+      ∙ number_stays setup tuple user id expires_at true 2 1 (number_to tuple 2 (state_of new)) wants.ipv6 (state_of mid) refl)
 
-  first_is : opens setup tuple user id until (wants_in true 1 (numbers_in a).ipv4 wants.ipv4) (state_of old) ≡ state_of mid
-  first_is = ap (λ (n : ℕ). opens setup tuple user id until (wants_in true 1 n wants.ipv4) (state_of old)) first_number ∙ sym first.state_is
+  first_is : opens setup tuple user id expires_at (wants_in true 1 (numbers_in a).ipv4 wants.ipv4) (state_of old) ≡ state_of mid
+  first_is = ap (λ (n : ℕ). opens setup tuple user id expires_at (wants_in true 1 n wants.ipv4) (state_of old)) first_number ∙ sym first.state_is
 
-  second_is : opens setup tuple user id until (wants_in true 2 (numbers_in a).ipv6 wants.ipv6) (state_of mid) ≡ state_of new
-  second_is = ap (λ (n : ℕ). opens setup tuple user id until (wants_in true 2 n wants.ipv6) (state_of mid)) (ap (λ (n : Families ℕ). n.ipv6) shown) ∙ sym second.state_is
+  second_is : opens setup tuple user id expires_at (wants_in true 2 (numbers_in a).ipv6 wants.ipv6) (state_of mid) ≡ state_of new
+  second_is = ap (λ (n : ℕ). opens setup tuple user id expires_at (wants_in true 2 n wants.ipv6) (state_of mid)) (ap (λ (n : Families ℕ). n.ipv6) shown) ∙ sym second.state_is
 
   both_are : opens setup tuple user id (old.clock + seconds lifetime) (wants_of true (numbers_in a) wants) (state_of old) ≡ state_of new
   both_are =
       ap (λ (u : ℕ). opens setup tuple user id u (wants_of true (numbers_in a) wants) (state_of old)) (sym until_is)
-      ∙ (opens_append setup tuple user id until (wants_in true 1 (numbers_in a).ipv4 wants.ipv4) (wants_in true 2 (numbers_in a).ipv6 wants.ipv6) (state_of old)
-      ∙ (ap (opens setup tuple user id until (wants_in true 2 (numbers_in a).ipv6 wants.ipv6)) first_is ∙ second_is))
+      ∙ (opens_append setup tuple user id expires_at (wants_in true 1 (numbers_in a).ipv4 wants.ipv4) (wants_in true 2 (numbers_in a).ipv6 wants.ipv6) (state_of old)
+      ∙ (ap (opens setup tuple user id expires_at (wants_in true 2 (numbers_in a).ipv6 wants.ipv6)) first_is ∙ second_is))
 
   pub grants_both : Grants setup tuple user id lifetime wants old new a
   grants_both = record {
@@ -289,11 +289,11 @@ earlier_least end (Some other) = omega arith
 first_soon : (tuple : FiveTuple) (clock : ℕ) (rs : List Relay) → AllByRecursion (λ r. is_sound clock r ≡ true) rs → (end : ℕ) → first_end tuple rs ≡ Some end → end ≤ clock + seconds lifetime_max
 first_soon tuple clock [] sound end is = absurd cc
 first_soon tuple clock (r ∷ rs) sound end first =
-    cond_both (is_of tuple r) (Some (earlier_of r.until (first_end tuple rs))) (first_end tuple rs) (λ o. o ≡ Some end → end ≤ clock + seconds lifetime_max)
+    cond_both (is_of tuple r) (Some (earlier_of r.expires_at (first_end tuple rs))) (first_end tuple rs) (λ o. o ≡ Some end → end ≤ clock + seconds lifetime_max)
     (λ _ is.
-    let same : earlier_of r.until (first_end tuple rs) ≡ end = cc in
-    let least = earlier_least r.until (first_end tuple rs) in
-    let soon : r.until ≤ clock + seconds lifetime_max = le_of r.until (clock + seconds lifetime_max) (and_parts ((r.family == 1) || (r.family == 2)) (nat_le r.until (clock + seconds lifetime_max)) sound.0).1 in
+    let same : earlier_of r.expires_at (first_end tuple rs) ≡ end = cc in
+    let least = earlier_least r.expires_at (first_end tuple rs) in
+    let soon : r.expires_at ≤ clock + seconds lifetime_max = le_of r.expires_at (clock + seconds lifetime_max) (and_parts ((r.family == 1) || (r.family == 2)) (nat_le r.expires_at (clock + seconds lifetime_max)) sound.0).1 in
     omega (arith, same, least, soon))
     (λ _ is. first_soon tuple clock rs sound.1 end is) first
   where

@@ -166,12 +166,12 @@ module _ (t : Table) (tuple : FiveTuple) (client : Client) (owns : Owns t tuple 
       sym (any_own (is_of_another tuple user) (λ i. not (i.user == user)) (λ a isnt. and_left (is_of tuple a) (not (is_users user a)) isnt)
       (λ a is. ap (λ (b : Bool). b && not (is_users user a)) is))
 
-  pub opened_own : (user id : ℕ) → (place_any (λ i. (i.user == user) && (i.opened_by == id)) client.ipv4 || place_any (λ i. (i.user == user) && (i.opened_by == id)) client.ipv6)
-      ≡ list_any (λ a. is_owned tuple user a && (a.opened_by == id)) (state_of t).relays
+  pub opened_own : (user id : ℕ) → (place_any (λ i. (i.user == user) && (i.transaction_id == id)) client.ipv4 || place_any (λ i. (i.user == user) && (i.transaction_id == id)) client.ipv6)
+      ≡ list_any (λ a. is_owned tuple user a && (a.transaction_id == id)) (state_of t).relays
   opened_own user id =
-      sym (any_own (λ a. is_owned tuple user a && (a.opened_by == id)) (λ i. (i.user == user) && (i.opened_by == id))
-      (λ a isnt. and_left (is_owned tuple user a) (a.opened_by == id) (and_left (is_of tuple a) (is_users user a) isnt))
-      (λ a is. ap (λ (b : Bool). (b && is_users user a) && (a.opened_by == id)) is))
+      sym (any_own (λ a. is_owned tuple user a && (a.transaction_id == id)) (λ i. (i.user == user) && (i.transaction_id == id))
+      (λ a isnt. and_left (is_owned tuple user a) (a.transaction_id == id) (and_left (is_of tuple a) (is_users user a) isnt))
+      (λ a is. ap (λ (b : Bool). (b && is_users user a) && (a.transaction_id == id)) is))
 
   -- ---- Ends
 
@@ -179,17 +179,17 @@ module _ (t : Table) (tuple : FiveTuple) (client : Client) (owns : Owns t tuple 
   min_turned a b = omega arith
 
   first_two : (one other : Option Relay) → ((r : Relay) → one ≡ Some r → is_of tuple r ≡ true) → ((r : Relay) → other ≡ Some r → is_of tuple r ≡ true)
-      → first_end tuple (two one other) ≡ option_map_or (λ end. Some (earlier_of end (option_map (λ r. r.until) other))) (option_map (λ r. r.until) one) (option_map (λ r. r.until) other)
+      → first_end tuple (two one other) ≡ option_map_or (λ end. Some (earlier_of end (option_map (λ r. r.expires_at) other))) (option_map (λ r. r.expires_at) one) (option_map (λ r. r.expires_at) other)
   first_two None None first second = refl
-  first_two None (Some s) first second = cond-true (is_of tuple s) (Some s.until) None (second s refl)
-  first_two (Some r) None first second = cond-true (is_of tuple r) (Some r.until) None (first r refl)
+  first_two None (Some s) first second = cond-true (is_of tuple s) (Some s.expires_at) None (second s refl)
+  first_two (Some r) None first second = cond-true (is_of tuple r) (Some r.expires_at) None (first r refl)
   first_two (Some r) (Some s) first second =
-      cond_both (nat_lt r.number s.number) (s ∷ put number_of r []) (r ∷ s ∷ []) (λ rs. first_end tuple rs ≡ Some (min r.until s.until))
-      (λ _. cond-true (is_of tuple s) (Some (earlier_of s.until (first_end tuple (r ∷ [])))) (first_end tuple (r ∷ [])) (second s refl)
-      ∙ (ap (λ (o : Option ℕ). Some (earlier_of s.until o)) (cond-true (is_of tuple r) (Some r.until) None (first r refl))
-      ∙ ap (λ (n : ℕ). Some n) (min_turned s.until r.until)))
-      (λ _. cond-true (is_of tuple r) (Some (earlier_of r.until (first_end tuple (s ∷ [])))) (first_end tuple (s ∷ [])) (first r refl)
-      ∙ ap (λ (o : Option ℕ). Some (earlier_of r.until o)) (cond-true (is_of tuple s) (Some s.until) None (second s refl)))
+      cond_both (nat_lt r.number s.number) (s ∷ put number_of r []) (r ∷ s ∷ []) (λ rs. first_end tuple rs ≡ Some (min r.expires_at s.expires_at))
+      (λ _. cond-true (is_of tuple s) (Some (earlier_of s.expires_at (first_end tuple (r ∷ [])))) (first_end tuple (r ∷ [])) (second s refl)
+      ∙ (ap (λ (o : Option ℕ). Some (earlier_of s.expires_at o)) (cond-true (is_of tuple r) (Some r.expires_at) None (first r refl))
+      ∙ ap (λ (n : ℕ). Some n) (min_turned s.expires_at r.expires_at)))
+      (λ _. cond-true (is_of tuple r) (Some (earlier_of r.expires_at (first_end tuple (s ∷ [])))) (first_end tuple (s ∷ [])) (first r refl)
+      ∙ ap (λ (o : Option ℕ). Some (earlier_of r.expires_at o)) (cond-true (is_of tuple s) (Some s.expires_at) None (second s refl)))
 
   of_place : (family : ℕ) (place : Option Place) → IsFound t tuple family place → (r : Relay) → in_place t place ≡ Some r → is_of tuple r ≡ true
   of_place family None none r there = absurd cc
@@ -197,19 +197,19 @@ module _ (t : Table) (tuple : FiveTuple) (client : Client) (owns : Owns t tuple 
       let same : it.relay ≡ r = cc in
       subst (λ (x : Relay). is_of tuple x ≡ true) same (and_parts (is_of tuple it.relay) (it.relay.family == family) it.is_its).0
 
-  end_place : (family : ℕ) (place : Option Place) → IsFound t tuple family place → option_map (λ r. r.until) (in_place t place) ≡ option_map (λ p. p.relayed.until) place
+  end_place : (family : ℕ) (place : Option Place) → IsFound t tuple family place → option_map (λ r. r.expires_at) (in_place t place) ≡ option_map (λ p. p.relayed.expires_at) place
   end_place family None none = refl
   end_place family (Some place) it =
-      ap (option_map (λ (r : Relay). r.until)) it.holds ∙ ap (λ (i : Identity). Some i.until) (sym it.shown)
+      ap (option_map (λ (r : Relay). r.expires_at)) it.holds ∙ ap (λ (i : Identity). Some i.expires_at) (sym it.shown)
 
   pub first_own : first_end tuple (state_of t).relays
-      ≡ option_map_or (λ end. Some (earlier_of end (option_map (λ p. p.relayed.until) client.ipv6))) (option_map (λ p. p.relayed.until) client.ipv4) (option_map (λ p. p.relayed.until) client.ipv6)
+      ≡ option_map_or (λ end. Some (earlier_of end (option_map (λ p. p.relayed.expires_at) client.ipv6))) (option_map (λ p. p.relayed.expires_at) client.ipv4) (option_map (λ p. p.relayed.expires_at) client.ipv6)
   first_own =
       first_kept tuple (listed t.slots)
       ∙ (ap (first_end tuple) owns.all
       ∙ (first_two (in_place t client.ipv4) (in_place t client.ipv6) (of_place 1 client.ipv4 owns.ipv4) (of_place 2 client.ipv6 owns.ipv6)
-      ∙ (ap (λ (o : Option ℕ). option_map_or (λ end. Some (earlier_of end o)) (option_map (λ r. r.until) (in_place t client.ipv4)) o) (end_place 2 client.ipv6 owns.ipv6)
-      ∙ ap (λ (o : Option ℕ). option_map_or (λ end. Some (earlier_of end (option_map (λ p. p.relayed.until) client.ipv6))) o (option_map (λ p. p.relayed.until) client.ipv6)) (end_place 1 client.ipv4 owns.ipv4))))
+      ∙ (ap (λ (o : Option ℕ). option_map_or (λ end. Some (earlier_of end o)) (option_map (λ r. r.expires_at) (in_place t client.ipv4)) o) (end_place 2 client.ipv6 owns.ipv6)
+      ∙ ap (λ (o : Option ℕ). option_map_or (λ end. Some (earlier_of end (option_map (λ p. p.relayed.expires_at) client.ipv6))) o (option_map (λ p. p.relayed.expires_at) client.ipv6)) (end_place 1 client.ipv4 owns.ipv4))))
 
   -- ---- Numbers and addresses
 

@@ -23,7 +23,7 @@ use Rattle.turn_allocations.specs.declared.client.Client.{Client}
 use Rattle.turn_allocations.specs.Answers.{answer_of, code_of}
 use Rattle.turn_allocations.specs.Clients.{is_sound, AreSound, IsFound, in_place, Owns, Becomes}
 use Rattle.turn_allocations.specs.Ending.{Numbers}
-use Rattle.turn_allocations.specs.Granting.{any_at, lacks_room, lacks_channel, changed_in}
+use Rattle.turn_allocations.specs.Granting.{any_at, lacks_room, HaveRoom, lacks_channel, changed_in}
 use Rattle.turn_allocations.specs.Serving.{Serves, Appends, IsDone, or_else}
 use Rattle.turn_allocations.proofs.OwnLemmas.{Within, any_kept, any_in}
 use Rattle.turn_allocations.proofs.ClientLemmas.{slot_of, found_is, any_both, sound_slots}
@@ -318,21 +318,20 @@ permits setup rules tuple user peers state own few rows is =
     ap (λ (request : Request). serves setup rules tuple user request state) (cond-false (nat_lt most_peers (length peers)) (unfit 508) (permit peers) few)
     ∙ ap (λ (o : Option ℕ). option_map_or (refuses tuple state) o (fulfils setup tuple user (permit peers) state)) (own (permit_rows setup rules state tuple user peers) ∙ sym is)
 
--- no row applies: there is room
-last_none : (a b c : Bool) → None ≡ row (not a) 443 (row (not b) 403 (row c 508 None)) → c ≡ false
-last_none true true true none = absurd cc
-last_none true true false none = refl
-last_none true false c none = absurd cc
-last_none false b c none = absurd cc
+-- what the code asks of room
+pub both_room : (most : ℕ) (peers : List Endpoint) (t : Table) (client : Client) (one other : Bool) → one ≡ any_at (lacks_room most t.clock peers) t client.ipv4 → other ≡ any_at (lacks_room most t.clock peers) t client.ipv6
+    → (one || other) ≡ false → HaveRoom most peers t client
+both_room most peers t client one other one_is other_is none = let parts = or_parts one other none in (sym one_is ∙ parts.0, sym other_is ∙ parts.1)
 
-pub has_room : (setup : Setup) (rules : Rules) (t : Table) (tuple : FiveTuple) (user : ℕ) (client : Client) → Owns t tuple client → has_of_another tuple user (state_of t) ≡ false → (peers : List Endpoint) (most : ℕ) → setup.most_permissions ≡ most
-    → None ≡ permit_rows setup rules (state_of t) tuple user peers
-    → (any_at (lacks_room most t.clock peers) t client.ipv4 ≡ false) × (any_at (lacks_room most t.clock peers) t client.ipv6 ≡ false)
-has_room setup rules t tuple user client owns mine peers most is none =
-    or_parts (any_at (lacks_room most t.clock peers) t client.ipv4) (any_at (lacks_room most t.clock peers) t client.ipv6)
-    (sym (any_owned t tuple client owns user mine (lacks_room most t.clock peers))
-    ∙ subst (λ (m : ℕ). list_any (λ a. is_owned tuple user a && lacks_room m t.clock peers a) (state_of t).relays ≡ false) is
-    (last_none (have_families tuple peers (state_of t)) (list_all (λ peer. rules.allows_ip peer.ip) peers) (list_any (lacks_permissions setup t.clock tuple user peers) (state_of t).relays) none))
+-- a change in the first place takes no room in the second
+pub second_room : (t : Table) (tuple : FiveTuple) (client : Client) → Owns t tuple client → (peers : List Endpoint) (most : ℕ) → HaveRoom most peers t client
+    → (one : Table) → one ≡ changed_in client.ipv4 (permitting t.clock peers) t → any_at (lacks_room most one.clock peers) one client.ipv6 ≡ false
+second_room t tuple client owns peers most rooms one is =
+    let change = permitting t.clock peers in
+    let half = changed_in client.ipv4 change t in
+    ap (λ (x : Table). any_at (lacks_room most x.clock peers) x client.ipv6) is
+    ∙ (ap (λ (n : ℕ). any_at (lacks_room most n peers) half client.ipv6) (ap (λ (x : Table). x.clock) (changed_in_is client.ipv4 change t))
+    ∙ (ap (λ (o : Option Relay). option_map_or (lacks_room most t.clock peers) o false) (second_stays t tuple change client.ipv4 client.ipv6 owns.ipv4 owns.ipv6) ∙ rooms.1))
 
 pub lacks_owned : (setup : Setup) (t : Table) (tuple : FiveTuple) (user : ℕ) (client : Client) → Owns t tuple client → has_of_another tuple user (state_of t) ≡ false → (peers : List Endpoint) (most : ℕ) → setup.most_permissions ≡ most
     → (any_at (lacks_room most t.clock peers) t client.ipv4 || any_at (lacks_room most t.clock peers) t client.ipv6) ≡ list_any (lacks_permissions setup t.clock tuple user peers) (state_of t).relays
@@ -355,18 +354,6 @@ binding_number lifetime now number peer a =
 pub binding_only : (lifetime now number : ℕ) (peer : Endpoint) → IsOfFamily peer.ip.family (binding lifetime now number peer)
 binding_only lifetime now number peer a apart =
     cond-false (peer.ip.family == a.family) (record a { permissions = with_permission_for lifetime now peer.ip a.permissions; channels = with_channel now number peer a.channels }) a apart
-
--- none of the user's passes a test: nor does what is in the place
-none_owned : ListHasSlots → (t : Table) (tuple : FiveTuple) (user : ℕ) → has_of_another tuple user (state_of t) ≡ false → (family : ℕ) (place : Option Place) → IsFound t tuple family place
-    → (q : Relay → Bool) → list_any (owned_and tuple user q) (state_of t).relays ≡ false → any_at q t place ≡ false
-none_owned has t tuple user mine family None found q none = refl
-none_owned has t tuple user mine family (Some place) it q none =
-    let r = it.relay in
-    let is = is_of_it tuple family r it.is_its in
-    let owned = and_from (is_of tuple r) (is_users user r) is (are_users has t tuple user mine place.slot r it.holds is) in
-    ap (λ (o : Option Relay). option_map_or q o false) it.holds
-    ∙ (sym (and_true (is_owned tuple user r) (q r) owned)
-    ∙ not_true (owned_and tuple user q r) (has.each t.slots (λ a. not (owned_and tuple user q a)) (each_not (owned_and tuple user q) (listed t.slots) none) place.slot r it.holds))
 
 -- ---- The rows
 
@@ -440,18 +427,6 @@ module _ (setup : Setup) (rules : Rules) (state : State) (tuple : FiveTuple) (us
       ap (λ (x : Bool). bind_five true false true true x) (sym five)
       ∙ (ap (λ (x : Bool). bind_five true false true x room_row) (sym four) ∙ from_family one two three)
 
-  -- no row applies: there is room
-  pub bind_room : None ≡ bind_rows setup rules state tuple user number peer → room_row ≡ false
-  bind_room none = rows number_row clash_row family_row allowed_row room_row none
-    where
-      rows : (n c f a r : Bool) → None ≡ bind_five n c f a r → r ≡ false
-      rows true false true true true none = absurd cc
-      rows true false true true false none = refl
-      rows true false true false r none = absurd cc
-      rows true false false a r none = absurd cc
-      rows true true f a r none = absurd cc
-      rows false c f a r none = absurd cc
-
 -- what the code asks of room is what the last row asks
 pub bind_lacks : ListFollowsSlots → ListHasSlots → (setup : Setup) (t : Table) (tuple : FiveTuple) (user : ℕ) → has_of_another tuple user (state_of t) ≡ false → (number : ℕ) (peer : Endpoint) (place : Option Place) → IsFound t tuple peer.ip.family place
     → (permission channel : Bool) → permission ≡ list_any (lacks_permissions setup t.clock tuple user (peer ∷ [])) (state_of t).relays → channel ≡ any_at (lacks_channel setup.most_channels t.clock number peer) t place
@@ -511,25 +486,18 @@ module _ (follows : ListFollowsSlots) (has : ListHasSlots) (setup : Setup) (rule
   mine : has_of_another tuple user (state_of t) ≡ false
   mine = mine_from tuple user (state_of t) (own None)
 
-  pub permit_serves : AreSound t → (peers : List Endpoint) (most : ℕ) → setup.most_permissions ≡ most → nat_lt most_peers (length peers) ≡ false
+  pub permit_serves : AreSound t → (peers : List Endpoint) → nat_lt most_peers (length peers) ≡ false
       → (rows : Option Refusal) → rows ≡ None → option_map code_of rows ≡ permit_rows setup rules (state_of t) tuple user peers → (one new : Table)
-      → (any_at (lacks_room most t.clock peers) t client.ipv4 ≡ false → one ≡ changed_in client.ipv4 (permitting t.clock peers) t)
-      → (any_at (lacks_room most one.clock peers) one client.ipv6 ≡ false → new ≡ changed_in client.ipv6 (permitting one.clock peers) one)
+      → one ≡ changed_in client.ipv4 (permitting t.clock peers) t → new ≡ changed_in client.ipv6 (permitting one.clock peers) one
       → (ended : Numbers) → Serves setup rules tuple user (permit_request peers) t new ended ended Done
-  permit_serves sound peers most is few rows row_is by_rows one new one_is new_is ended =
+  permit_serves sound peers few rows row_is by_rows one new one_is new_is ended =
       let none : None ≡ permit_rows setup rules (state_of t) tuple user peers = ap (option_map code_of) (sym row_is) ∙ by_rows in
       let change = permitting t.clock peers in
-      let rooms = has_room setup rules t tuple user client owns mine peers most is none in
       let half = changed_in client.ipv4 change t in
-      let first : one ≡ half = one_is rooms.0 in
       let clock : half.clock ≡ t.clock = ap (λ (x : Table). x.clock) (changed_in_is client.ipv4 change t) in
-      let room : any_at (lacks_room most one.clock peers) one client.ipv6 ≡ false =
-      ap (λ (x : Table). any_at (lacks_room most x.clock peers) x client.ipv6) first
-      ∙ (ap (λ (n : ℕ). any_at (lacks_room most n peers) half client.ipv6) clock
-      ∙ (ap (λ (o : Option Relay). option_map_or (lacks_room most t.clock peers) o false) (second_stays t tuple change client.ipv4 client.ipv6 owns.ipv4 owns.ipv6) ∙ rooms.1)) in
       let both : new ≡ changed_in client.ipv6 change half =
-      new_is room
-      ∙ (ap (λ (x : Table). changed_in client.ipv6 (permitting x.clock peers) x) first
+      new_is
+      ∙ (ap (λ (x : Table). changed_in client.ipv6 (permitting x.clock peers) x) one_is
       ∙ ap (λ (n : ℕ). changed_in client.ipv6 (permitting n peers) half) clock) in
       served setup rules tuple user (permit_request peers) t new ended Done (changed tuple user change (state_of t))
       (permits setup rules tuple user peers (state_of t) own few None none)
@@ -538,17 +506,12 @@ module _ (follows : ListFollowsSlots) (has : ListHasSlots) (setup : Setup) (rule
 
   pub bind_serves : (number : ℕ) (peer : Endpoint) (place : Option Place) → IsFound t tuple peer.ip.family place → (lifetime : ℕ) → lifetime ≡ bound_for setup
       → (rows : Option Refusal) → rows ≡ None → option_map code_of rows ≡ bind_rows setup rules (state_of t) tuple user number peer → (new : Table)
-      → (any_at (lacks_room setup.most_permissions t.clock (peer ∷ [])) t place ≡ false → any_at (lacks_channel setup.most_channels t.clock number peer) t place ≡ false
-      → new ≡ changed_in place (binding lifetime t.clock number peer) t)
+      → new ≡ changed_in place (binding lifetime t.clock number peer) t
       → (ended : Numbers) → Serves setup rules tuple user (bind number peer) t new ended ended Done
   bind_serves number peer place found lifetime lasts rows row_is by_rows new new_is ended =
       let none : None ≡ bind_rows setup rules (state_of t) tuple user number peer = ap (option_map code_of) (sym row_is) ∙ by_rows in
-      let rooms = or_parts (list_any (lacks_permissions setup t.clock tuple user (peer ∷ [])) (state_of t).relays) (list_any (lacks_channels setup t.clock tuple user number peer) (state_of t).relays)
-      (bind_room setup rules (state_of t) tuple user number peer none) in
-      let room = none_owned has t tuple user mine peer.ip.family place found (lacks_room setup.most_permissions t.clock (peer ∷ [])) rooms.0 in
-      let channel = sym (any_owned_for follows has t tuple user mine peer.ip.family place found (lacks_channel setup.most_channels t.clock number peer)) ∙ rooms.1 in
       let change = binding (bound_for setup) t.clock number peer in
-      let is : new ≡ changed_in place change t = new_is room channel ∙ ap (λ (n : ℕ). changed_in place (binding n t.clock number peer) t) lasts in
+      let is : new ≡ changed_in place change t = new_is ∙ ap (λ (n : ℕ). changed_in place (binding n t.clock number peer) t) lasts in
       served setup rules tuple user (bind number peer) t new ended Done (changed tuple user change (state_of t))
       (ap (λ (o : Option ℕ). option_map_or (refuses tuple (state_of t)) o (fulfils setup tuple user (bind number peer) (state_of t)))
       (own (bind_rows setup rules (state_of t) tuple user number peer) ∙ sym none))

@@ -9,3 +9,4 @@ mod AllocatingLemmas
 mod RelayingLemmas
 mod ServingLemmas
 mod SteppingLemmas
+mod MeteringLemmas

@@ -40,9 +40,9 @@ find_kept {X = X} test p within (x ∷ xs) =
 pub first_kept : (tuple : FiveTuple) (xs : List Relay) → first_end tuple xs ≡ first_end tuple (filter (is_of tuple) xs)
 first_kept tuple [] = refl
 first_kept tuple (x ∷ xs) =
-    cond_both (is_of tuple x) (x ∷ filter (is_of tuple) xs) (filter (is_of tuple) xs) (λ ys. cond (is_of tuple x) (Some (earlier_of x.until (first_end tuple xs))) (first_end tuple xs) ≡ first_end tuple ys)
-    (λ _. ap (λ (o : Option ℕ). cond (is_of tuple x) (Some (earlier_of x.until o)) o) (first_kept tuple xs))
-    (λ no. cond-false (is_of tuple x) (Some (earlier_of x.until (first_end tuple xs))) (first_end tuple xs) no ∙ first_kept tuple xs)
+    cond_both (is_of tuple x) (x ∷ filter (is_of tuple) xs) (filter (is_of tuple) xs) (λ ys. cond (is_of tuple x) (Some (earlier_of x.expires_at (first_end tuple xs))) (first_end tuple xs) ≡ first_end tuple ys)
+    (λ _. ap (λ (o : Option ℕ). cond (is_of tuple x) (Some (earlier_of x.expires_at o)) o) (first_kept tuple xs))
+    (λ no. cond-false (is_of tuple x) (Some (earlier_of x.expires_at (first_end tuple xs))) (first_end tuple xs) no ∙ first_kept tuple xs)
 
 -- ---- Two at most
 

@@ -278,7 +278,7 @@ sound_ends has t (Some p) end le sound = after (at_slot t p.slot) refl
   where
     lasts : (r : Relay) → is_sound t.clock r ≡ true → is_sound t.clock (ends_at end r) ≡ true
     lasts r so =
-        let parts = and_parts ((r.family == 1) || (r.family == 2)) (nat_le r.until (t.clock + seconds lifetime_max)) so in
+        let parts = and_parts ((r.family == 1) || (r.family == 2)) (nat_le r.expires_at (t.clock + seconds lifetime_max)) so in
         and_from ((r.family == 1) || (r.family == 2)) (nat_le end (t.clock + seconds lifetime_max)) parts.0 (le-leb end (t.clock + seconds lifetime_max) le)
 
     after : (o : Option Relay) → at_slot t p.slot ≡ o → AreSound (option_map_or (λ r. with_slot p.slot (Some (ends_at end r)) t) o t)

@@ -127,7 +127,7 @@ sound_left : (clock : ℕ) (keep : Relay → Bool) (rs : List Relay) → AllByRe
 sound_left clock keep [] each = tt
 sound_left clock keep (r ∷ rs) each =
     cond_both (keep r) (r ∷ filter keep rs) (filter keep rs) (AllByRecursion (λ (x : Relay). ((x.family == 1) || (x.family == 2)) ≡ true))
-    (λ _. ((and_parts ((r.family == 1) || (r.family == 2)) (nat_le r.until (clock + seconds lifetime_max)) each.0).0, sound_left clock keep rs each.1))
+    (λ _. ((and_parts ((r.family == 1) || (r.family == 2)) (nat_le r.expires_at (clock + seconds lifetime_max)) each.0).0, sound_left clock keep rs each.1))
     (λ _. sound_left clock keep rs each.1)
 
 family_of_it : (o : Option Relay) → IfSome o (λ r. ((r.family == 1) || (r.family == 2)) ≡ true) → IfSome (option_map (λ (r : Relay). r.family) o) (λ f. ((f == 1) || (f == 2)) ≡ true)

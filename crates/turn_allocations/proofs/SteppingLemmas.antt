@@ -65,26 +65,26 @@ differ : (b : Bool) → b ≡ true → b ≡ false → ⊥
 differ true is also = absurd cc
 differ false is also = absurd cc
 
-not_at : (due : ℕ) (rs : List Relay) → list_any (λ r. r.until == due) rs ≡ false → AllByRecursion (λ r. not (r.until == due) ≡ true) rs
+not_at : (due : ℕ) (rs : List Relay) → list_any (λ r. r.expires_at == due) rs ≡ false → AllByRecursion (λ r. not (r.expires_at == due) ≡ true) rs
 not_at due [] none = tt
 not_at due (r ∷ rs) none =
-    let parts = or_parts (r.until == due) (list_any (λ a. a.until == due) rs) none in
+    let parts = or_parts (r.expires_at == due) (list_any (λ a. a.expires_at == due) rs) none in
     (ap not parts.0, not_at due rs parts.1)
 
-due_later : (due : ℕ) (rs : List Relay) → AllByRecursion (λ r. nat_le due r.until ≡ true) rs → AllByRecursion (λ r. due ≤ r.until) rs
+due_later : (due : ℕ) (rs : List Relay) → AllByRecursion (λ r. nat_le due r.expires_at ≡ true) rs → AllByRecursion (λ r. due ≤ r.expires_at) rs
 due_later due [] each = tt
-due_later due (r ∷ rs) each = (leb-true due r.until each.0, due_later due rs each.1)
+due_later due (r ∷ rs) each = (leb-true due r.expires_at each.0, due_later due rs each.1)
 
 pub next_end : ListHasSlots → (t : Table) (due : ℕ) → IsFirstEnd due t → IsNextEnd due (state_of t).relays
 next_end has t due first = record {
-  some = elim (cases_Bool (list_any (λ r. r.until == due) (listed t.slots))) [
+  some = elim (cases_Bool (list_any (λ r. r.expires_at == due) (listed t.slots))) [
     | inl found ↦ found
     | inr none ↦
         let it = first.some in
-        let isnt = has.each t.slots (λ r. not (r.until == due)) (not_at due (listed t.slots) none) it.0 it.1 it.2 in
-        absurd (differ (not (it.1.until == due)) isnt (ap not (eq-eqb it.1.until due it.3)))
+        let isnt = has.each t.slots (λ r. not (r.expires_at == due)) (not_at due (listed t.slots) none) it.0 it.1 it.2 in
+        absurd (differ (not (it.1.expires_at == due)) isnt (ap not (eq-eqb it.1.expires_at due it.3)))
   ];
-  least = due_later due (listed t.slots) (has.all t.slots (λ r. nat_le due r.until) (λ slot r there. le-leb due r.until (first.least slot r there)));
+  least = due_later due (listed t.slots) (has.all t.slots (λ r. nat_le due r.expires_at) (λ slot r there. le-leb due r.expires_at (first.least slot r there)));
 }
 
 pub none_left : ListFollowsSlots → (t : Table) → Each t (λ r. ⊥) → (state_of t).relays ≡ []

@@ -205,10 +205,10 @@ sound_later t new clock is le sound = subst AreSound (sym is) (each_later (liste
   where
     later : (r : Relay) → is_sound t.clock r ≡ true → is_sound clock r ≡ true
     later r so =
-        let parts = and_parts ((r.family == 1) || (r.family == 2)) (nat_le r.until (t.clock + seconds lifetime_max)) so in
-        let until = leb-true r.until (t.clock + seconds lifetime_max) parts.1 in
-        and_from ((r.family == 1) || (r.family == 2)) (nat_le r.until (clock + seconds lifetime_max)) parts.0
-        (le-leb r.until (clock + seconds lifetime_max) (omega (arith, until, le)))
+        let parts = and_parts ((r.family == 1) || (r.family == 2)) (nat_le r.expires_at (t.clock + seconds lifetime_max)) so in
+        let expires_at = leb-true r.expires_at (t.clock + seconds lifetime_max) parts.1 in
+        and_from ((r.family == 1) || (r.family == 2)) (nat_le r.expires_at (clock + seconds lifetime_max)) parts.0
+        (le-leb r.expires_at (clock + seconds lifetime_max) (omega (arith, expires_at, le)))
 
     each_later : (rs : List Relay) → AllByRecursion (λ r. is_sound t.clock r ≡ true) rs → AllByRecursion (λ r. is_sound clock r ≡ true) rs
     each_later [] each = tt

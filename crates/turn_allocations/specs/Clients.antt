@@ -1,5 +1,5 @@
 -- The relayed addresses of one client, by their slots.
-use Rattle.std.specs.Prelude.{◌≡◌, ℕ, ◌+◌, Bool, true, false, ◌&&◌, ◌||◌, ◌==◌, nat_le, List, [], ◌∷◌, filter, Option, None, Some, length, option_and_then}
+use Rattle.std.specs.Prelude.{◌≡◌, ℕ, ◌+◌, Bool, true, false, ◌&&◌, ◌||◌, ◌==◌, if◌then◌else◌, nat_le, List, [], ◌∷◌, filter, Option, None, Some, length, option_and_then}
 use Rattle.std.specs.List.{AllByRecursion}
 use Rattle.std.specs.Option.{option_map_or}
 use Rattle.stun_endpoints.specs.declared.endpoints.FiveTuple.{FiveTuple}
@@ -22,7 +22,7 @@ lifetime_max = 4_294_967_295
 -- it is an IPv4 or IPv6 address, and expires within the greatest lifetime
 abbrev pub is_sound : (clock : ℕ) → Relay → Bool
 is_sound clock r =
-    ((r.family == 1) || (r.family == 2)) && nat_le r.until (clock + seconds lifetime_max)
+    ((r.family == 1) || (r.family == 2)) && nat_le r.expires_at (clock + seconds lifetime_max)
 
 abbrev pub AreSound : Table → Type 0
 AreSound t = AllByRecursion (λ r. is_sound t.clock r ≡ true) (state_of t).relays
@@ -32,21 +32,21 @@ AreSound t = AllByRecursion (λ r. is_sound t.clock r ≡ true) (state_of t).rel
 pub record Identity : Type 0 where
   pub tuple : FiveTuple
   pub user : ℕ
-  pub opened_by : ℕ
+  pub transaction_id : ℕ
   pub family : ℕ
   pub number : ℕ
   pub address : Endpoint
-  pub until : ℕ
+  pub expires_at : ℕ
 
 abbrev pub identity_of : Relay → Identity
 identity_of r = record {
   tuple = r.tuple;
   user = r.user;
-  opened_by = r.opened_by;
+  transaction_id = r.transaction_id;
   family = r.family;
   number = r.number;
   address = r.address;
-  until = r.until;
+  expires_at = r.expires_at;
 }
 
 -- the same of a relayed address as the code returns it
@@ -54,11 +54,11 @@ abbrev pub seen : Relayed → Identity
 seen r = record {
   tuple = r.key.tuple;
   user = user_number r.user;
-  opened_by = r.opened_by;
+  transaction_id = r.transaction_id;
   family = r.key.family;
   number = r.number;
   address = r.address;
-  until = r.until;
+  expires_at = r.expires_at;
 }
 
 -- ---- The relayed addresses of a client
@@ -76,6 +76,11 @@ pub record IsAt (t : Table) (tuple : FiveTuple) (family : ℕ) (place : Place) :
 abbrev pub IsFound : Table → FiveTuple → (family : ℕ) → Option Place → Type 0
 IsFound t tuple family None = Each t (λ r. is_for tuple family r ≡ false)
 IsFound t tuple family (Some place) = IsAt t tuple family place
+
+-- the place of a client's relayed address of a family
+abbrev pub place_of : (family : ℕ) → Client → Option Place
+place_of family client =
+    if family == 1 then client.ipv4 else if family == 2 then client.ipv6 else None
 
 -- the relayed address in a place, if there is one
 abbrev pub in_place : Table → Option Place → Option Relay

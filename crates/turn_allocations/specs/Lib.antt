@@ -3,6 +3,7 @@ pub mod Calls
 pub mod Clients
 pub mod Ending
 pub mod Granting
+pub mod Metering
 pub mod Outputs
 pub mod Refreshing
 pub mod Requests

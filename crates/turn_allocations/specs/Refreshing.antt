@@ -11,7 +11,7 @@ if_wanted place of (Some family) = if family == of then place else None
 
 -- a relayed address that ends at another moment
 abbrev pub ends_at : ℕ → Relay → Relay
-ends_at end r = record r { until = end }
+ends_at end r = record r { expires_at = end }
 
 -- the relayed address in a place has ended, if there is one
 abbrev pub ended_in : Option Place → Table → Table

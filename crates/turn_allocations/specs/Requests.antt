@@ -70,9 +70,9 @@ number_to tuple family state =
     option_map_or (λ a. a.number) (find (is_for tuple family) state.relays) 0
 
 -- opens a relayed address of a family, if the client asks for it and can have it
-pub record OpensOf (setup : Setup) (tuple : FiveTuple) (user id until family : ℕ) (want : Want)
+pub record OpensOf (setup : Setup) (tuple : FiveTuple) (user id expires_at family : ℕ) (want : Want)
     (old new : Table) : Type 0 where
-  pub state_is : state_of new ≡ opens setup tuple user id until
+  pub state_is : state_of new ≡ opens setup tuple user id expires_at
       (wants_in true family (number_to tuple family (state_of new)) want) (state_of old)
   pub slots : length new.slots ≡ length old.slots
   pub clock : new.clock ≡ old.clock

@@ -16,7 +16,7 @@ supports families family =
 abbrev pub setup_of : Limits → (permissions channels : ℕ) → Setup
 setup_of limits permissions channels = record {
   most_relays = limits.relays;
-  most_of_user = limits.of_user;
+  most_of_user = limits.relays_per_user;
   most_reservations = limits.reservations;
   most_permissions = permissions;
   most_channels = channels;
@@ -27,6 +27,10 @@ setup_of limits permissions channels = record {
   passes_icmp = limits.icmp;
   channel_permits = limits.channel_permits;
 }
+
+-- other limits, but with the room that there is
+abbrev pub with_limits : (old new : Limits) → Limits
+with_limits old new = record new { relays = old.relays; reservations = old.reservations }
 
 -- The rules of a policy on IP addresses and ports. No Teredo or 6to4 address is a peer (RFC 8656, section
 -- 21.4)

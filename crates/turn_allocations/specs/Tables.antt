@@ -25,5 +25,5 @@ pub record IsStep (setup : Setup) (rules : Rules) (old : Serving) (now : ℕ) (e
 
 -- one of them expires at this moment, and none before
 pub record IsNextEnd (due : ℕ) (relays : List Relay) : Type 0 where
-  pub some : list_any (λ r. r.until == due) relays ≡ true
-  pub least : AllByRecursion (λ r. due ≤ r.until) relays
+  pub some : list_any (λ r. r.expires_at == due) relays ≡ true
+  pub least : AllByRecursion (λ r. due ≤ r.expires_at) relays

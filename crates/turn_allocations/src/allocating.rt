@@ -11,7 +11,7 @@ ghost use Rattle.turn_machine.specs.Relays.{Setup, Rules, State, seconds, is_for
 ghost use Rattle.turn_machine.specs.Events.{Offer, allocate};
 ghost use Rattle.turn_machine.specs.Opening.{has_of, can_open, allocation_answer, missing_to};
 ghost use Rattle.turn_machine.specs.Rows.{is_offered, is_ready, allocate_rows};
-ghost use Rattle.turn_machine.specs.Times.{granted_for, left_of};
+ghost use Rattle.turn_machine.specs.Times.{left_of};
 ghost use Rattle.turn_relays.specs.Relayed.{Table, Each, state_of};
 ghost use Rattle.turn_allocations.specs.Answers.{code_of, answer_of, missing_in};
 ghost use Rattle.turn_allocations.specs.Clients.{AreSound, Owns, lifetime_max};
@@ -26,6 +26,7 @@ use crate::families::Families;
 use crate::limits::Limits;
 use crate::request::Want;
 use stun_endpoints::FiveTuple;
+use turn_machine::allocation_lifetime;
 use turn_relays::{Relays, list_follows_slots, lists_have_slots};
 use turn_slots::{RelayKey, UserId};
 
@@ -82,16 +83,6 @@ fn is_ready(limits: &Limits, is_open: bool, wants: &Families<Want>) -> bool
             | (wants.ipv6.is_ready() & limits.families.ipv6))
 }
 
-/// The lifetime that is granted, in seconds.
-fn granted_for(wanted: Option<u32>, greatest: u32) -> u32
-    ensures { result ≡ granted_for wanted greatest }
-{
-    match wanted {
-        Some(wanted) => wanted.min(greatest).max(600),
-        None => 600,
-    }
-}
-
 /// The last value of the next number at which an Allocate request opens relayed addresses: numbers last for
 /// 2^40 - 3 openings.
 const LAST_NUMBER: u64 = 18_446_744_073_659_219_968;
@@ -112,7 +103,7 @@ fn has_quota<const P: usize, const C: usize>(
 ) -> bool
     ensures { result ≡ has_quota (setup_of limits.now P C) (user_number user) (state_of relays.now) }
 {
-    relays.count_by_user(user) < limits.of_user as usize
+    relays.count_by_user(user) < limits.relays_per_user as usize
 }
 
 /// Whether there may be one more relayed address.
@@ -195,16 +186,16 @@ fn open<const P: usize, const C: usize>(
     asking: &Asking,
     family: u8,
     want: Want,
-    until: u128,
+    expires_at: u128,
 )
     requires sound { AreSound relays.old }
     requires slots { length relays.old.slots ≡ limits.now.relays }
     requires openings { relays.old.openings < rounds }
     requires family { ((family == 1) || (family == 2)) ≡ true }
-    requires until { until ≤ relays.old.clock + seconds lifetime_max }
-    requires before_never { until < never }
+    requires expires_at { expires_at ≤ relays.old.clock + seconds lifetime_max }
+    requires before_never { expires_at < never }
     ensures opens { OpensOf (setup_of limits.now P C) asking.now.tuple (user_number asking.now.user)
-        asking.now.id until family want relays.old relays.new }
+        asking.now.id expires_at family want relays.old relays.new }
     ensures sound { AreSound relays.new }
     ensures slow { relays.new.next ≤ relays.old.next + 2 ^ 25 }
 {
@@ -222,7 +213,7 @@ fn open<const P: usize, const C: usize>(
     lists_have_slots();
     relays.numbers_are_below_next();
     relays.next_number();
-    relays.open(key, asking.user, asking.id, address, until);
+    relays.open(key, asking.user, asking.id, address, expires_at);
     relays.next_number();
 }
 
@@ -313,9 +304,9 @@ fn grant<const P: usize, const C: usize>(
     ensures sound { AreSound relays.new }
     ensures slow { relays.new.next ≤ relays.old.next + 2 ^ 26 }
 {
-    let until = relays.clock() + SECOND * lifetime as u128;
-    open(relays, limits, asking, 1, wants.ipv4, until);
-    open(relays, limits, asking, 2, wants.ipv6, until);
+    let expires_at = relays.clock() + SECOND * lifetime as u128;
+    open(relays, limits, asking, 1, wants.ipv4, expires_at);
+    open(relays, limits, asking, 2, wants.ipv6, expires_at);
     let client = client_of(relays, &asking.tuple);
     answer(limits, &client, wants, lifetime)
 }
@@ -347,6 +338,6 @@ pub(crate) fn allocate<const P: usize, const C: usize>(
     if let Some(refusal) = allocate_fault(relays, limits, client, asking.user, wants) {
         return Answer::Refused(refusal);
     }
-    let lifetime = granted_for(lifetime, limits.greatest_lifetime);
+    let lifetime = allocation_lifetime(lifetime, limits.greatest_lifetime);
     grant(relays, limits, asking, lifetime, wants)
 }

@@ -1,16 +1,20 @@
 //! The allocations of a server.
 
-ghost use Rattle.std.specs.Prelude.{◌≡◌, ◌<◌, ◌≤◌, ◌^◌, ℕ, List, [], length, count_by, IfOk, MatchOption, IfSome, find, true, ◌==◌, ◌||◌};
+ghost use Rattle.std.specs.Prelude.{◌≡◌, ◌<◌, ◌≤◌, ◌^◌, ℕ, List, [], length, count_by, IfOk, MatchOption, IfSome, find, map, true, ◌==◌, ◌||◌};
+ghost use Rattle.std.specs.List.Sorted.{IsPermutation};
 ghost use Rattle.std.specs.Option.{option_map};
 ghost use Rattle.turn_slots.specs.Users.{user_number};
 ghost use Rattle.turn_machine.specs.Relays.{Rules, is_of, is_users};
 ghost use Rattle.turn_machine.specs.Events.{Icmp, asks, sends, sends_on, arrives, bounces, ends, ends_user, ticks, answers, nothing};
 ghost use Rattle.turn_machine.specs.Times.{at};
 ghost use Rattle.turn_machine.specs.Runs.{initial_state};
+ghost use Rattle.turn_relays.specs.Iterating.{relayed_left};
+ghost use Rattle.turn_relays.specs.Shown.{relayed_of};
 ghost use Rattle.turn_allocations.specs.Answers.{answer_of};
+ghost use Rattle.turn_allocations.specs.Metering.{HavePlaces};
 ghost use Rattle.turn_allocations.specs.Outputs.{sending, receiving, bouncing};
 ghost use Rattle.turn_allocations.specs.Requests.{asked};
-ghost use Rattle.turn_allocations.specs.Setups.{rules_of, setup_of};
+ghost use Rattle.turn_allocations.specs.Setups.{rules_of, setup_of, with_limits};
 ghost use Rattle.turn_allocations.specs.Tables.{IsStep, IsNextEnd};
 
 use crate::answer::Answer;
@@ -25,7 +29,7 @@ use std::alloc::{AllocError, Global};
 use std::marker::Model;
 use stun_endpoints::{Endpoint, FiveTuple};
 use turn_peers::PeerPolicy;
-use turn_relays::{Relays, list_follows_slots, lists_have_slots};
+use turn_relays::{Iter, Relays, list_follows_slots, lists_have_slots};
 use turn_slots::UserId;
 
 /// The allocations of a TURN server (RFC 8656), each relayed address with at most `P` permissions and `C`
@@ -41,9 +45,9 @@ use turn_slots::UserId;
 ///
 /// [`Allocations::new`] takes all memory; no other call allocates. Each relayed address that opens, is
 /// refreshed or ends takes up to log2 of `limits.relays` steps. Apart from that, the cost of a call doesn't
-/// depend on how many allocations there are. Permissions and channels of a relayed address are searched one
-/// by one. CreatePermission does so for each peer, and copies the permissions to the stack, 48 bytes for each
-/// of `P`, as ChannelBind does.
+/// depend on how many allocations there are; [`Allocations::iter`] alone walks over all slots. Permissions and
+/// channels of a relayed address are searched one by one. CreatePermission does so for each peer, and copies
+/// the permissions to the stack, 48 bytes for each of `P`, as ChannelBind does.
 ///
 /// ```
 /// use stun_endpoints::{Endpoint, FiveTuple, Ip};
@@ -130,11 +134,24 @@ impl<const P: usize, const C: usize> Allocations<P, C> {
         })
     }
 
-    /// Returns the limits that the caller passed to [`Allocations::new`].
+    /// Returns the limits that the caller passed last.
     pub fn limits(&self) -> Limits
         ensures { result ≡ self.now.limits }
     {
         self.limits
+    }
+
+    /// Replaces the limits, but `relays` and `reservations`, for which the table has taken memory. What was
+    /// granted stays: a user who now has more relayed addresses than `relays_per_user` gets no other one, and a
+    /// lifetime counts until it is refreshed.
+    pub fn set_limits(&mut self, limits: Limits)
+        ensures { self.new ≡ record self.old { limits = with_limits self.old.limits limits } }
+    {
+        self.limits = Limits {
+            relays: self.limits.relays,
+            reservations: self.limits.reservations,
+            ..limits
+        };
     }
 
     /// Returns a lower bound of the number of the next relayed address: it is above the numbers of all opened
@@ -152,6 +169,47 @@ impl<const P: usize, const C: usize> Allocations<P, C> {
         ensures { result ≡ length self.now.state.relays }
     {
         self.relays.len()
+    }
+
+    /// Iterates over the relayed addresses, in the order of their slots. It yields each that
+    /// [`Allocations::len`] counts exactly once, so also those that have expired since the last call with
+    /// `now`: call [`Allocations::poll`] first to leave them out.
+    ///
+    /// A whole walk takes a step for each of `limits.relays` slots, however few are taken, and allocates
+    /// nothing.
+    ///
+    /// ```
+    /// use stun_endpoints::{Endpoint, FiveTuple};
+    /// use turn_allocations::{Allocations, Families, Limits, Request, Want};
+    /// use turn_peers::Peers;
+    /// use turn_slots::UserId;
+    ///
+    /// let mut allocations = Allocations::<16, 16>::new(alloc, Limits::default(), [1, 2])?;
+    /// let peers = Peers { denied: &[], allowed: &[], listening: &[] };
+    /// let (tuple, user) = (FiveTuple::default(), UserId::from([1; 32]));
+    /// let address = Endpoint { port: 50_000, ..Endpoint::default() };
+    /// let wants = Families { ipv4: Want::Ready(address), ipv6: Want::No };
+    /// let allocate = Request::Allocate { id: 7, lifetime: None, wants };
+    /// allocations.request(0, &tuple, user, allocate, &peers);
+    ///
+    /// let relayed = allocations.iter().next().ok_or("no relayed address")?;
+    /// assert_eq!(rt; (relayed.key.tuple, relayed.key.family), (tuple, 1));
+    /// assert_eq!(rt; (relayed.user, relayed.address), (user, address));
+    /// assert_eq!(rt; relayed.expires_at, 600_000_000_000);
+    /// assert_eq!(rt; allocations.iter().count(), 1);
+    /// ```
+    pub fn iter(&self) -> Iter<'_, P, C>
+        ensures { IsPermutation (map relayed_of self.now.state.relays) (relayed_left result) }
+    {
+        self.relays.iter()
+    }
+
+    /// Each relayed address has a place in a [`Meter`](crate::Meter) of `limits.relays`, and no other has the
+    /// same: so the meter counts for each as long as it exists. The call does nothing: its contract is the law.
+    pub fn numbers_have_places(&self)
+        ensures { HavePlaces self.now.limits.relays self.now.state.relays }
+    {
+        self.relays.numbers_have_slots();
     }
 
     /// Returns the number of a user's relayed addresses, including those that have expired since the last
@@ -205,7 +263,7 @@ impl<const P: usize, const C: usize> Allocations<P, C> {
     /// A request is refused with the first code that applies, and a refused request changes nothing.
     ///
     /// Allocate: 437 if the client has an allocation, unless this user opened it with this transaction ID;
-    /// 440 if the server relays none of the families that the request asks for; 486 if the user has `of_user`
+    /// 440 if the server relays none of the families that the request asks for; 486 if the user has `relays_per_user`
     /// relayed addresses; 508 if the server has `relays` relayed addresses, or no socket is ready for a
     /// family that it relays, or numbers are used up, after at least 2^38 allocations. Otherwise the client
     /// gets each relayed address that it asks for and can have, for LIFETIME, but at least 600 seconds and at

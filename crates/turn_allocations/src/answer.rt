@@ -35,7 +35,7 @@ pub enum Refusal {
     /// 443: the client has no relayed address of the peer's family, or of the family of a Refresh request.
     #[error("Peer Address Family Mismatch")]
     PeerAddressFamilyMismatch,
-    /// 486: the user has [`Limits::of_user`](crate::Limits::of_user) relayed addresses.
+    /// 486: the user has [`Limits::relays_per_user`](crate::Limits::relays_per_user) relayed addresses.
     #[error("Allocation Quota Reached")]
     AllocationQuotaReached,
     /// 508: there is no room for a relayed address, a permission or a channel, or no socket is ready, or a

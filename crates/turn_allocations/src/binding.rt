@@ -1,6 +1,6 @@
 //! ChannelBind requests (RFC 8656, section 12.2).
 
-ghost use Rattle.std.specs.Prelude.{◌≡◌, ℕ, false, [], ◌∷◌};
+ghost use Rattle.std.specs.Prelude.{◌≡◌, ℕ, None, false, [], ◌∷◌};
 ghost use Rattle.std.specs.List.{list_any};
 ghost use Rattle.std.specs.Option.{option_map};
 ghost use Rattle.stun_endpoints.specs.declared.endpoints.FiveTuple.{FiveTuple};
@@ -12,7 +12,7 @@ ghost use Rattle.turn_machine.specs.Data.{allows};
 ghost use Rattle.turn_machine.specs.Steps.{binding};
 ghost use Rattle.turn_relays.specs.Relayed.{state_of};
 ghost use Rattle.turn_allocations.specs.Answers.{code_of};
-ghost use Rattle.turn_allocations.specs.Clients.{AreSound, Owns};
+ghost use Rattle.turn_allocations.specs.Clients.{AreSound, Owns, place_of};
 ghost use Rattle.turn_allocations.specs.Ending.{Numbers};
 ghost use Rattle.turn_allocations.specs.Granting.{any_at, lacks_room, lacks_channel, changed_in};
 ghost use Rattle.turn_allocations.specs.Serving.{Serves};
@@ -93,11 +93,15 @@ fn bind_fault<const P: usize, const C: usize, A: PeerPolicy>(
     peer: Endpoint,
     policy: &A,
 ) -> Option<Refusal>
-    ensures { (tuple : FiveTuple) (user : ℕ) → Owns relays.now tuple client.now
+    ensures rows { (tuple : FiveTuple) (user : ℕ) → Owns relays.now tuple client.now
         → has_of_another tuple user (state_of relays.now) ≡ false
         → option_map code_of result ≡ bind_rows (setup_of limits.now P C)
         (rules_of (A.allows_address policy.now) (A.allows_port policy.now))
         (state_of relays.now) tuple user number peer }
+    ensures room { result ≡ None → any_at (lacks_room P relays.now.clock (peer ∷ [])) relays.now
+        (place_of peer.ip.family client.now) ≡ false }
+    ensures channel_room { result ≡ None → any_at (lacks_channel C relays.now.clock number peer) relays.now
+        (place_of peer.ip.family client.now) ≡ false }
 {
     list_follows_slots();
     lists_have_slots();
@@ -121,7 +125,7 @@ fn bind_fault<const P: usize, const C: usize, A: PeerPolicy>(
 }
 
 /// Binds a number to a peer in the relayed address in a place, with a permission that lasts `lifetime`
-/// seconds, if there is one and it has room.
+/// seconds, if there is one.
 fn bind_in<const P: usize, const C: usize>(
     relays: &mut Relays<P, C>,
     place: Option<Place>,
@@ -129,22 +133,16 @@ fn bind_in<const P: usize, const C: usize>(
     peer: Endpoint,
     lifetime: u32,
 )
-    ensures binds { any_at (lacks_room P relays.old.clock (peer ∷ [])) relays.old place ≡ false
-        → any_at (lacks_channel C relays.old.clock number peer) relays.old place ≡ false
-        → relays.new ≡ changed_in place (binding lifetime relays.old.clock number peer) relays.old }
+    requires room { any_at (lacks_room P relays.old.clock (peer ∷ [])) relays.old place ≡ false }
+    requires channel_room { any_at (lacks_channel C relays.old.clock number peer) relays.old place ≡ false }
+    ensures binds { relays.new
+        ≡ changed_in place (binding lifetime relays.old.clock number peer) relays.old }
     ensures sound { AreSound relays.old → AreSound relays.new }
 {
     lists_have_slots();
     let Some(place) = place else {
         return;
     };
-    let peers = [peer];
-    if relays.lacks_permissions(place.slot, &peers) {
-        return;
-    }
-    if relays.lacks_channel(place.slot, number, peer) {
-        return;
-    }
     relays.bind(place.slot, number, peer, lifetime);
 }
 

@@ -11,7 +11,7 @@ ghost use Rattle.turn_machine.specs.Opening.{has_of, given_to};
 ghost use Rattle.turn_machine.specs.Rows.{has_any, has_of_another, has_wanted};
 ghost use Rattle.turn_relays.specs.Relayed.{Table, state_of};
 ghost use Rattle.turn_allocations.specs.Answers.{given_list};
-ghost use Rattle.turn_allocations.specs.Clients.{IsFound, in_place, place_any, given_at, AreSound, Owns};
+ghost use Rattle.turn_allocations.specs.Clients.{IsFound, place_of, in_place, place_any, given_at, AreSound, Owns};
 ghost use Rattle.turn_allocations.specs.Requests.{number_in};
 
 use crate::answer::Given;
@@ -69,29 +69,22 @@ pub(crate) fn client_of<const P: usize, const C: usize>(
     }
 }
 
-/// Whether two users are the same.
-fn is_same(one: UserId, other: UserId) -> bool
-    ensures { result ≡ (user_number one == user_number other) }
-{
-    one.high == other.high && one.low == other.low
-}
-
 /// Whether there is a place, and it belongs to another user.
 fn is_anothers(place: Option<Place>, user: UserId) -> bool
     ensures { result ≡ place_any (λ i. not (i.user == user_number user)) place }
 {
     match place {
-        Some(place) => !is_same(place.relayed.user, user),
+        Some(place) => !place.relayed.user.is_same(user),
         None => false,
     }
 }
 
 /// Whether there is a place, and the user's request with this transaction ID opened it.
 fn is_opened_by(place: Option<Place>, user: UserId, id: u128) -> bool
-    ensures { result ≡ place_any (λ i. (i.user == user_number user) && (i.opened_by == id)) place }
+    ensures { result ≡ place_any (λ i. (i.user == user_number user) && (i.transaction_id == id)) place }
 {
     match place {
-        Some(place) => is_same(place.relayed.user, user) && place.relayed.opened_by == id,
+        Some(place) => place.relayed.user.is_same(user) && place.relayed.transaction_id == id,
         None => false,
     }
 }
@@ -109,10 +102,10 @@ fn earlier(one: Option<u128>, other: Option<u128>) -> Option<u128>
 
 /// When the relayed address in a place expires.
 fn end_of(place: Option<Place>) -> Option<u128>
-    ensures { result ≡ option_map (λ p. p.relayed.until) place }
+    ensures { result ≡ option_map (λ p. p.relayed.expires_at) place }
 {
     match place {
-        Some(place) => Some(place.relayed.until),
+        Some(place) => Some(place.relayed.expires_at),
         None => None,
     }
 }
@@ -150,7 +143,7 @@ impl Client {
     /// Whether the user's request with this transaction ID opened one of them.
     pub(crate) fn is_opened_by(&self, user: UserId, id: u128) -> bool
         ensures { (t : Table) (tuple : FiveTuple) → Owns t tuple self.now
-            → result ≡ list_any (λ a. is_owned tuple (user_number user) a && (a.opened_by == id))
+            → result ≡ list_any (λ a. is_owned tuple (user_number user) a && (a.transaction_id == id))
             (state_of t).relays }
     {
         is_opened_by(self.ipv4, user, id) | is_opened_by(self.ipv6, user, id)
@@ -158,6 +151,7 @@ impl Client {
 
     /// The place of a family.
     pub(crate) fn of_family(&self, family: u8) -> Option<Place>
+        ensures place { result ≡ place_of family self.now }
         ensures found { (t : Table) (tuple : FiveTuple) → Owns t tuple self.now
             → IsFound t tuple family result }
         ensures relay { (t : Table) (tuple : FiveTuple) → Owns t tuple self.now

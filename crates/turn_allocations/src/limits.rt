@@ -12,9 +12,9 @@ pub struct Limits {
     /// The most relayed addresses of one user at a time. If the user has as many, an Allocate request is
     /// refused with 486. If one more is allowed, a request for both families gets one address, and 508 as the
     /// reason for the family that is missing.
-    pub of_user: u32,
+    pub relays_per_user: u32,
     /// The most reserved sockets at a time, for EVEN-PORT with its R bit (RFC 8656, section 7.2), and at most
-    /// `of_user` of one user. An Allocate request beyond it is refused with 508. 0 reserves none.
+    /// `relays_per_user` of one user. An Allocate request beyond it is refused with 508. 0 reserves none.
     ///
     /// [`Allocations`](crate::Allocations) makes no reservations, and doesn't read this.
     pub reservations: u32,
@@ -47,7 +47,7 @@ impl Default for Limits {
 
     ghost is_default = { λ limits. limits ≡ record {
       relays = 4096;
-      of_user = 64;
+      relays_per_user = 64;
       reservations = 64;
       greatest_lifetime = 3600;
       families = record { ipv4 = true; ipv6 = true };
@@ -60,7 +60,7 @@ impl Default for Limits {
     fn default() -> Self {
         Limits {
             relays: 4096,
-            of_user: 64,
+            relays_per_user: 64,
             reservations: 64,
             greatest_lifetime: 3600,
             families: Families {

@@ -1,6 +1,6 @@
 //! CreatePermission requests (RFC 8656, sections 9 and 10.2).
 
-ghost use Rattle.std.specs.Prelude.{◌≡◌, ℕ, false};
+ghost use Rattle.std.specs.Prelude.{◌≡◌, ℕ, None, false};
 ghost use Rattle.std.specs.List.{list_any, list_all};
 ghost use Rattle.std.specs.Option.{option_map};
 ghost use Rattle.stun_endpoints.specs.declared.endpoints.FiveTuple.{FiveTuple};
@@ -14,7 +14,7 @@ ghost use Rattle.turn_peers.specs.Policies.{is_peer};
 ghost use Rattle.turn_allocations.specs.Answers.{code_of};
 ghost use Rattle.turn_allocations.specs.Clients.{AreSound, Owns};
 ghost use Rattle.turn_allocations.specs.Ending.{Numbers};
-ghost use Rattle.turn_allocations.specs.Granting.{any_at, lacks_room, changed_in};
+ghost use Rattle.turn_allocations.specs.Granting.{any_at, lacks_room, HaveRoom, changed_in};
 ghost use Rattle.turn_allocations.specs.Serving.{Serves};
 ghost use Rattle.turn_allocations.specs.Setups.{rules_of};
 
@@ -73,10 +73,11 @@ pub(crate) fn lacks_permissions<const P: usize, const C: usize>(
     client: &Client,
     peers: &[Endpoint],
 ) -> bool
-    ensures { (setup : Setup) (tuple : FiveTuple) (user : ℕ) → setup.most_permissions ≡ P
+    ensures row { (setup : Setup) (tuple : FiveTuple) (user : ℕ) → setup.most_permissions ≡ P
         → Owns relays.now tuple client.now → has_of_another tuple user (state_of relays.now) ≡ false
         → result ≡ list_any (lacks_permissions setup relays.now.clock tuple user peers.now)
         (state_of relays.now).relays }
+    ensures room { result ≡ false → HaveRoom P peers.now relays.now client.now }
 {
     lacks_permissions_in(relays, client.ipv4, peers)
         | lacks_permissions_in(relays, client.ipv6, peers)
@@ -89,11 +90,12 @@ fn permit_fault<const P: usize, const C: usize, A: PeerPolicy>(
     peers: &[Endpoint],
     policy: &A,
 ) -> Option<Refusal>
-    ensures { (setup : Setup) (tuple : FiveTuple) (user : ℕ) → setup.most_permissions ≡ P
+    ensures rows { (setup : Setup) (tuple : FiveTuple) (user : ℕ) → setup.most_permissions ≡ P
         → Owns relays.now tuple client.now → has_of_another tuple user (state_of relays.now) ≡ false
         → option_map code_of result ≡ permit_rows setup
         (rules_of (A.allows_address policy.now) (A.allows_port policy.now))
         (state_of relays.now) tuple user peers.now }
+    ensures room { result ≡ None → HaveRoom P peers.now relays.now client.now }
 {
     if !has_families(client, peers) {
         return Some(Refusal::PeerAddressFamilyMismatch);
@@ -107,23 +109,20 @@ fn permit_fault<const P: usize, const C: usize, A: PeerPolicy>(
     None
 }
 
-/// Inserts permissions for peers in the relayed address in a place, if there is one and it has room.
+/// Inserts permissions for peers in the relayed address in a place, if there is one.
 fn permit_in<const P: usize, const C: usize>(
     relays: &mut Relays<P, C>,
     place: Option<Place>,
     peers: &[Endpoint],
 )
-    ensures permits { any_at (lacks_room P relays.old.clock peers.now) relays.old place ≡ false
-        → relays.new ≡ changed_in place (permitting relays.old.clock peers.now) relays.old }
+    requires room { any_at (lacks_room P relays.old.clock peers.now) relays.old place ≡ false }
+    ensures permits { relays.new ≡ changed_in place (permitting relays.old.clock peers.now) relays.old }
     ensures sound { AreSound relays.old → AreSound relays.new }
 {
     lists_have_slots();
     let Some(place) = place else {
         return;
     };
-    if relays.lacks_permissions(place.slot, peers) {
-        return;
-    }
     relays.permit(place.slot, peers);
 }
 
@@ -136,6 +135,7 @@ pub(crate) fn permit<const P: usize, const C: usize, A: PeerPolicy>(
     policy: &A,
 ) -> Answer
     requires sound { AreSound relays.old }
+    requires owns { (tuple : FiveTuple) × Owns relays.old tuple client.now }
     ensures serves { (setup : Setup) (tuple : FiveTuple) (ended : Numbers) → setup.most_permissions ≡ P
         → Owns relays.old tuple client.now
         → Serves setup (rules_of (A.allows_address policy.now) (A.allows_port policy.now)) tuple

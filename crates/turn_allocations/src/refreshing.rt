@@ -8,7 +8,6 @@ ghost use Rattle.turn_machine.specs.Relays.{seconds, Setup, Rules, is_owned};
 ghost use Rattle.turn_machine.specs.Events.{nothing, refresh};
 ghost use Rattle.turn_machine.specs.Rows.{has_of_another};
 ghost use Rattle.turn_machine.specs.Steps.{changed, closing, is_wanted, lasting};
-ghost use Rattle.turn_machine.specs.Times.{refreshed_for};
 ghost use Rattle.turn_relays.specs.Relayed.{state_of};
 ghost use Rattle.turn_allocations.specs.Clients.{lifetime_max, in_place, AreSound, Becomes, Owns};
 ghost use Rattle.turn_allocations.specs.Granting.{changed_in};
@@ -20,22 +19,12 @@ use crate::client::{Client, Place};
 use crate::ended::Ended;
 use crate::owning::owner_fault;
 use crate::sweeping::end_at;
+use turn_machine::refresh_lifetime;
 use turn_relays::{Relays, list_follows_slots, lists_have_slots};
 use turn_slots::UserId;
 
 /// Nanoseconds of a second.
 const SECOND: u128 = 1_000_000_000;
-
-/// The lifetime that is granted, in seconds: 0 if the request asks for 0.
-fn refreshed_for(wanted: Option<u32>, greatest: u32) -> u32
-    ensures { result ≡ refreshed_for wanted greatest }
-{
-    match wanted {
-        Some(0) => 0,
-        Some(wanted) => wanted.min(greatest).max(600),
-        None => 600,
-    }
-}
 
 /// The place of the family `of`, if a Refresh request with this family, or with none, is for it.
 fn if_wanted(place: Option<Place>, of: u8, family: Option<u8>) -> Option<Place>
@@ -92,13 +81,13 @@ fn end_wanted<const P: usize, const C: usize>(
 fn set_end_in<const P: usize, const C: usize>(
     relays: &mut Relays<P, C>,
     place: Option<Place>,
-    until: u128,
+    expires_at: u128,
 )
-    requires { until < never }
-    ensures { relays.new ≡ changed_in place (ends_at until) relays.old }
+    requires { expires_at < never }
+    ensures { relays.new ≡ changed_in place (ends_at expires_at) relays.old }
 {
     if let Some(place) = place {
-        relays.set_end(place.slot, until);
+        relays.set_end(place.slot, expires_at);
     }
 }
 
@@ -107,20 +96,20 @@ fn set_ends<const P: usize, const C: usize>(
     relays: &mut Relays<P, C>,
     client: &Client,
     family: Option<u8>,
-    until: u128,
+    expires_at: u128,
 )
-    requires soon { until ≤ relays.old.clock + seconds lifetime_max }
-    requires until { until < never }
+    requires soon { expires_at ≤ relays.old.clock + seconds lifetime_max }
+    requires expires_at { expires_at < never }
     requires sound { AreSound relays.old }
     ensures becomes { (tuple : FiveTuple) (user : ℕ) → Owns relays.old tuple client.now
         → has_of_another tuple user (state_of relays.old) ≡ false
-        → Becomes relays.old relays.new (changed tuple user (lasting family until) (state_of relays.old)) }
+        → Becomes relays.old relays.new (changed tuple user (lasting family expires_at) (state_of relays.old)) }
     ensures sound { AreSound relays.new }
 {
     list_follows_slots();
     lists_have_slots();
-    set_end_in(relays, if_wanted(client.ipv4, 1, family), until);
-    set_end_in(relays, if_wanted(client.ipv6, 2, family), until);
+    set_end_in(relays, if_wanted(client.ipv4, 1, family), expires_at);
+    set_end_in(relays, if_wanted(client.ipv6, 2, family), expires_at);
 }
 
 /// Answers a Refresh request of a client with these relayed addresses.
@@ -147,7 +136,7 @@ pub(crate) fn refresh<const P: usize, const C: usize>(
     if !client.has_wanted(family) {
         return Answer::Refused(Refusal::PeerAddressFamilyMismatch);
     }
-    let lifetime = refreshed_for(lifetime, greatest_lifetime);
+    let lifetime = refresh_lifetime(lifetime, greatest_lifetime);
     if lifetime == 0 {
         end_wanted(relays, ended, client, family);
     } else {

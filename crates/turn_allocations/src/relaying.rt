@@ -142,7 +142,7 @@ fn live_family(place: Option<Place>, now: u128) -> Option<u8>
         → result ≡ option_and_then (live_family now) o }
 {
     match place {
-        Some(place) if now < place.relayed.until => Some(place.relayed.key.family),
+        Some(place) if now < place.relayed.expires_at => Some(place.relayed.key.family),
         _ => None,
     }
 }

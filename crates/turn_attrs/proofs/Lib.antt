@@ -1,4 +1,4 @@
 mod AddressErrorsLemmas
 mod ProtocolsLemmas
 pub mod FramedLemmas
-mod HeadsLemmas
+pub mod HeadsLemmas

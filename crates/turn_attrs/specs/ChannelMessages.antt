@@ -30,19 +30,34 @@ padded_bytes message =
     let n = 4 + length (data_of message) in
     message_bytes message ++ replicate (padded_length n - n) 0
 
--- why a datagram is no ChannelData message: it begins with none, or the data is cut off, or more
--- follows than a padding has
+-- the data after a channel and its length, and the data of the message that begins the bytes, whatever
+-- follows it: None if it is cut off
+abbrev pub data_field : List ℕ → List ℕ
+data_field b = take (data_length b) (drop 4 b)
+
+abbrev pub data_in : List ℕ → Option (List ℕ)
+data_in b = if nat_lt (length b) (4 + data_length b) then None else Some (data_field b)
+
+-- why no message begins the bytes: none can, or the data is cut off
+abbrev pub prefix_fault_in : ChannelRange → List ℕ → Option ChannelDataError
+prefix_fault_in range b =
+    let n = 4 + data_length b in
+    option_or (begin_fault_in range b)
+    (if nat_lt (length b) n then Some (Truncated n (length b)) else None)
+
+abbrev pub prefix_fault : List ℕ → Option ChannelDataError
+prefix_fault = prefix_fault_in Rfc8656
+
+-- why a datagram is no ChannelData message: it begins with none, or more follows than a padding has
 abbrev pub channel_fault_in : ChannelRange → List ℕ → Option ChannelDataError
 channel_fault_in range b =
-    let n = 4 + data_length b in
-    option_or (begin_fault_in range b) (
-    if nat_lt (length b) n then Some (Truncated n (length b)) else (
-    if nat_lt (padded_length n) (length b) then Some (TooLarge (padded_length n) (length b))
-    else None))
+    let n = padded_length (4 + data_length b) in
+    option_or (prefix_fault_in range b)
+    (if nat_lt n (length b) then Some (TooLarge n (length b)) else None)
 
 abbrev pub channel_fault : List ℕ → Option ChannelDataError
 channel_fault = channel_fault_in Rfc8656
 
--- the message that is in a datagram which has no fault
+-- the message that begins the bytes, which have no fault
 abbrev pub IsIn : List ℕ → ChannelData → Type 0
-IsIn b = IsData (channel_field b) (take (data_length b) (drop 4 b))
+IsIn b = IsData (channel_field b) (data_field b)

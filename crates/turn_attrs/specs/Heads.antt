@@ -1,5 +1,6 @@
--- What is before and after data that a server passes on in a ChannelData message or in a Data
--- indication (RFC 8656, sections 11.3, 12.4 and 12.5), as it is written in place.
+-- What is before and after data that a client sends in a ChannelData message or in a Send
+-- indication, or a server in a Data indication (RFC 8656, sections 11.1, 11.3, 12.4 and 12.5), as it
+-- is written in place.
 use Rattle.std.specs.Prelude.{◌≡◌, ℕ, ◌+◌, ◌-◌, ◌≤◌, min, nat_lt, if◌then◌else◌, List, [], ◌∷◌, ◌++◌, length, take, drop, replicate, Option, Some, None}
 use Rattle.std.specs.declared.net.socket_addr.SocketAddr.{SocketAddr}
 use Rattle.std.specs.Net.Socket.{socket_ip}
@@ -31,11 +32,19 @@ padded_message channel data_bytes =
 abbrev pub peer_attribute : (id : ℕ) → SocketAddr → Attribute
 peer_attribute id peer = canonical XOR_PEER_ADDRESS (xored_value id peer)
 
--- a Data indication: the address of the peer, and its data
-abbrev pub data_indication : (id : ℕ) → SocketAddr → List ℕ → List ℕ
-data_indication id peer data_bytes =
-    message_encoding (type_of Indication 7) id
+-- an indication of a method: the address of the peer, and the data
+abbrev pub peer_indication : (method id : ℕ) → SocketAddr → List ℕ → List ℕ
+peer_indication method id peer data_bytes =
+    message_encoding (type_of Indication method) id
     (peer_attribute id peer ∷ canonical DATA data_bytes ∷ [])
+
+-- a Send indication: data for the peer
+abbrev pub send_indication : (id : ℕ) → SocketAddr → List ℕ → List ℕ
+send_indication = peer_indication 6
+
+-- a Data indication: data of the peer
+abbrev pub data_indication : (id : ℕ) → SocketAddr → List ℕ → List ℕ
+data_indication = peer_indication 7
 
 -- ---- Their heads
 
@@ -49,7 +58,8 @@ pub record IsHead (n : ℕ) (message : List ℕ → List ℕ) (old new : List �
       → (drop (length old - head.length) new ++ data_bytes) ++ replicate head.padding 0
       ≡ message data_bytes
 
--- how long the head of a Data indication is: a header, the peer's address, and the header of DATA
+-- how long the head of a Send or Data indication is: a header, the peer's address, and the header of
+-- DATA
 abbrev pub data_head_length : SocketAddr → ℕ
 data_head_length peer = 20 + (8 + octets_count (socket_ip peer)) + 4
 
@@ -69,7 +79,7 @@ channel_head_fault = head_fault 4 0
 abbrev pub data_head_fault : SocketAddr → (n greatest room : ℕ) → Option StunWriteError
 data_head_fault peer n = head_fault (data_head_length peer) (padding_of n) n
 
--- ---- How a Data indication is begun
+-- ---- How such an indication is begun
 
 -- the header of an attribute whose value has n bytes
 unfoldable pub value_header : (type n : ℕ) → List ℕ
@@ -82,6 +92,6 @@ opened message type n =
     take 2 message ++ (be16 (grown_length (length message) n - 20)
     ++ (drop 4 message ++ value_header type n))
 
-abbrev pub data_head : (id : ℕ) → SocketAddr → ℕ → List ℕ
-data_head id peer n =
-    opened (message_encoding (type_of Indication 7) id (peer_attribute id peer ∷ [])) DATA n
+abbrev pub peer_head : (method id : ℕ) → SocketAddr → ℕ → List ℕ
+peer_head method id peer n =
+    opened (message_encoding (type_of Indication method) id (peer_attribute id peer ∷ [])) DATA n

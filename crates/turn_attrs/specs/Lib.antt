@@ -4,4 +4,3 @@ pub mod Heads
 pub mod Protocols
 pub mod Reasons
 pub mod Turn
-pub mod Lifetimes

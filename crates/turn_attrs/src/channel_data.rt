@@ -143,7 +143,7 @@ pub fn channel_data_length_in(
 impl<'a> ChannelData<'a> {
     ghost use Rattle.std.specs.Prelude.{◌≡◌, ◌≤◌, ◌<◌, ◌+◌, ◌++◌, Ok, Err, Some, None, IsOkAnd, MatchResult, length, take, drop};
     ghost use Rattle.stun_grammar.specs.Numbers.{padded_length};
-    ghost use Rattle.turn_attrs.specs.ChannelMessages.{IsData, IsIn, channel_fault, channel_fault_in, message_bytes, padded_bytes, data_of};
+    ghost use Rattle.turn_attrs.specs.ChannelMessages.{IsData, IsIn, prefix_fault, prefix_fault_in, channel_fault, channel_fault_in, message_bytes, padded_bytes, data_of};
 
     /// Makes the message of this data on this channel, and borrows the data.
     ///
@@ -229,18 +229,67 @@ impl<'a> ChannelData<'a> {
             (λ read. (channel_fault_in range bytes.now ≡ None) × IsIn bytes.now read)
             (λ e. channel_fault_in range bytes.now ≡ Some e) }
     {
+        match Self::from_prefix_in(bytes, range) {
+            Ok(message) if bytes.len() > message.padded_len() => Err(ChannelDataError::TooLarge {
+                expected: message.padded_len(),
+                actual: bytes.len(),
+            }),
+            read => read,
+        }
+    }
+
+    /// Reads the ChannelData message that begins a datagram, whose data it borrows, as a server does
+    /// (RFC 8656, section 12.6). What follows it is ignored, however long it is.
+    ///
+    /// # Errors
+    ///
+    /// As for [`ChannelData::from_bytes`], but never `TooLarge`.
+    ///
+    /// # Examples
+    ///
+    /// ```
+    /// use turn_attrs::ChannelData;
+    ///
+    /// let datagram = b"\x40\x01\x00\x05hello, and more";
+    /// let message = ChannelData::from_prefix(datagram)?;
+    /// assert!(rt; message.length() == 9 && message.data() == b"hello".as_slice());
+    /// assert!(rt; ChannelData::from_bytes(datagram).is_err());
+    /// ```
+    pub fn from_prefix(bytes: &'a [u8]) -> Result<Self, ChannelDataError>
+        ensures { MatchResult result
+            (λ read. (prefix_fault bytes.now ≡ None) × IsIn bytes.now read)
+            (λ e. prefix_fault bytes.now ≡ Some e) }
+    {
+        Self::from_prefix_in(bytes, ChannelRange::Rfc8656)
+    }
+
+    /// Reads the ChannelData message that begins a datagram, as [`ChannelData::from_prefix`], on a
+    /// channel with a number of a range.
+    ///
+    /// # Errors
+    ///
+    /// As for [`ChannelData::from_prefix`]: `NotChannelData` if no number of the range begins with
+    /// the first byte.
+    ///
+    /// # Examples
+    ///
+    /// ```
+    /// use turn_attrs::{ChannelData, ChannelRange};
+    ///
+    /// let datagram = b"\x67\x80\x00\x05hello, and more";
+    /// let message = ChannelData::from_prefix_in(datagram, ChannelRange::Rfc5766)?;
+    /// assert!(rt; message.channel().number() == 0x6780 && message.length() == 9);
+    /// ```
+    pub fn from_prefix_in(bytes: &'a [u8], range: ChannelRange) -> Result<Self, ChannelDataError>
+        ensures { MatchResult result
+            (λ read. (prefix_fault_in range bytes.now ≡ None) × IsIn bytes.now read)
+            (λ e. prefix_fault_in range bytes.now ≡ Some e) }
+    {
         let channel = read_channel(bytes, range)?;
         let end = 4 + BigEndian::read_u16(&bytes[2..4]) as usize;
         if bytes.len() < end {
             return Err(ChannelDataError::Truncated {
                 expected: end,
-                actual: bytes.len(),
-            });
-        }
-        let padded = pad_attribute_len(end);
-        if bytes.len() > padded {
-            return Err(ChannelDataError::TooLarge {
-                expected: padded,
                 actual: bytes.len(),
             });
         }

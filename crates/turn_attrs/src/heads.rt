@@ -1,4 +1,5 @@
-//! The heads of ChannelData messages and Data indications, written before data that is in place.
+//! The heads of ChannelData messages and of Send and Data indications, written before data that is in
+//! place.
 
 ghost use Rattle.std.specs.Prelude.{◌≡◌, ◌+◌, ◌-◌, ◌^◌, ◌<◌, ◌≤◌, ◌++◌, length, take, drop, ℕ, List, IfOk, OnOk, MatchResult, Some, None};
 ghost use Rattle.std.specs.Net.Socket.{socket_ip};
@@ -6,14 +7,14 @@ ghost use Rattle.stun_grammar.specs.Adding.{grown_length};
 ghost use Rattle.stun_grammar.specs.Writing.{greatest_length};
 ghost use Rattle.stun_values.specs.Addresses.{octets, octets_count};
 ghost use Rattle.turn_attrs.specs.ChannelMessages.{channel_message};
-ghost use Rattle.turn_attrs.specs.Heads.{padding_of, padded_message, data_indication, IsHead, data_head_length, head_fault, channel_head_fault, data_head_fault, value_header, opened, data_head};
+ghost use Rattle.turn_attrs.specs.Heads.{padding_of, padded_message, peer_indication, send_indication, data_indication, IsHead, data_head_length, head_fault, channel_head_fault, data_head_fault, value_header, opened, peer_head};
 
 use crate::attribute_types::{DATA, XOR_PEER_ADDRESS};
 use crate::{Channel, XorPeerAddress, methods};
 use std::net::{IpAddr, SocketAddr};
 use stun_types::attribute::{AttributeHeader, AttributeType, EncodeValue, pad_attribute_len};
 use stun_types::message::write::{append_encoded, write_message_header};
-use stun_types::message::{MessageClass, MessageType, StunWriteError, TransactionId};
+use stun_types::message::{MessageClass, MessageType, Method, StunWriteError, TransactionId};
 
 /// What is around data: a head before it, at the end of the slice that it was written into, and
 /// zeros after it.
@@ -33,7 +34,7 @@ fn padding_of(data_length: usize) -> usize
     (4 - data_length % 4) % 4
 }
 
-/// How many bytes the head of a Data indication has.
+/// How many bytes the head of a Send or Data indication has.
 fn data_head_length(peer: SocketAddr) -> usize
     ensures value { result ≡ data_head_length peer }
     ensures octets { length (octets (socket_ip peer)) ≡ octets_count (socket_ip peer) }
@@ -178,20 +179,104 @@ fn open_attribute(atype: AttributeType, data_length: u16, len: usize, message: &
     copy_at(message, 2, &stated);
 }
 
-/// Writes the header, the peer's address and the header of DATA at the start of `head`.
+/// Writes the header of an indication, the peer's address and the header of DATA at the start of
+/// `head`.
 #[tactic(auto, using(crate::proofs::HeadsLemmas::octets_kept, crate::proofs::HeadsLemmas::few_octets))]
-fn write_data_start(id: TransactionId, peer: SocketAddr, data_length: u16, head: &mut [u8])
+fn write_peer_start(
+    method: Method,
+    id: TransactionId,
+    peer: SocketAddr,
+    data_length: u16,
+    head: &mut [u8],
+)
     requires room { data_head_length peer ≤ length head.old }
     requires fits { data_head_length peer + data_length + padding_of data_length ≤ greatest_length }
     requires octets { length (octets (socket_ip peer)) ≡ octets_count (socket_ip peer) }
-    ensures { head.new ≡ data_head id peer data_length ++ drop (data_head_length peer) head.old }
+    ensures { head.new
+        ≡ peer_head method id peer data_length ++ drop (data_head_length peer) head.old }
 {
-    let mtype = MessageType::from_class_method(MessageClass::Indication, methods::DATA);
+    let mtype = MessageType::from_class_method(MessageClass::Indication, method);
     let address = XorPeerAddress::new(peer, id);
     let len = 24 + address.value_length() as usize;
     write_message_header(mtype, id, head);
     append_encoded(AttributeType(XOR_PEER_ADDRESS), &address, 20, head);
     open_attribute(AttributeType(DATA), data_length, len, head);
+}
+
+/// Writes the head of an indication of a method at the end of `before`.
+fn write_peer_head(
+    method: Method,
+    id: TransactionId,
+    peer: SocketAddr,
+    data_length: usize,
+    greatest: usize,
+    before: &mut [u8],
+) -> Result<Head, StunWriteError>
+    ensures own { IfOk result (λ head. head.length ≡ data_head_length peer) }
+    ensures in_place { MatchResult result
+        (λ head. (data_head_fault peer data_length greatest (length before.old) ≡ None)
+        × IsHead data_length (peer_indication method id peer) before.old before.new head)
+        (λ e. (data_head_fault peer data_length greatest (length before.old) ≡ Some e)
+        × (before.new ≡ before.old)) }
+{
+    let own = data_head_length(peer);
+    let padding = padding_of(data_length);
+    check_head(own, padding, data_length, greatest, before.len())?;
+    let from = before.len() - own;
+    write_peer_start(method, id, peer, data_length as u16, &mut before[from..]);
+    Ok(Head {
+        length: own,
+        padding,
+    })
+}
+
+/// Writes the head of a Send indication at the end of `before`, for `data_length` bytes of data that
+/// follow it in place, as a client sends them to a peer: 36 bytes for a peer with an IPv4 address, and
+/// 48 with IPv6. It has the header of the message, XOR-PEER-ADDRESS, and the type and the length of
+/// DATA (RFC 8656, section 11.1); no DONT-FRAGMENT. What is before the head stays.
+///
+/// The `padding` of the result follows the data, as zeros, on every transport.
+///
+/// `greatest` is as for [`write_channel_head`], of the transport to the server; the padding counts.
+///
+/// # Errors
+///
+/// Those of [`write_data_head`]. `before` stays as it was then.
+///
+/// # Examples
+///
+/// ```
+/// use std::net::SocketAddr;
+/// use stun_types::message::{Message, TransactionId};
+/// use turn_attrs::{Head, PeerData, methods, write_send_head};
+///
+/// let peer: SocketAddr = "192.0.2.210:49191".parse()?;
+/// // The data is after 48 bytes, and zeros follow it.
+/// let mut buffer = [0; 56];
+/// buffer[48..53].copy_from_slice(b"hello");
+/// let (before, _) = buffer.split_at_mut(48);
+/// let head = write_send_head(TransactionId::from(7), peer, 5, 65507, before)?;
+/// assert_eq!(rt; head, Head { length: 36, padding: 3 });
+/// // The message is the 44 bytes from offset 12 on.
+/// let message = Message::from_bytes(&buffer[12..])?;
+/// assert!(rt; message.has_method(methods::SEND));
+/// assert_eq!(rt; message.attribute::<PeerData>(alloc)?.data(), b"hello".as_slice());
+/// ```
+pub fn write_send_head(
+    id: TransactionId,
+    peer: SocketAddr,
+    data_length: usize,
+    greatest: usize,
+    before: &mut [u8],
+) -> Result<Head, StunWriteError>
+    ensures own { IfOk result (λ head. head.length ≡ data_head_length peer) }
+    ensures in_place { MatchResult result
+        (λ head. (data_head_fault peer data_length greatest (length before.old) ≡ None)
+        × IsHead data_length (send_indication id peer) before.old before.new head)
+        (λ e. (data_head_fault peer data_length greatest (length before.old) ≡ Some e)
+        × (before.new ≡ before.old)) }
+{
+    write_peer_head(methods::SEND, id, peer, data_length, greatest, before)
 }
 
 /// Writes the head of a Data indication at the end of `before`, for `data_length` bytes of data that
@@ -243,13 +328,5 @@ pub fn write_data_head(
         (λ e. (data_head_fault peer data_length greatest (length before.old) ≡ Some e)
         × (before.new ≡ before.old)) }
 {
-    let own = data_head_length(peer);
-    let padding = padding_of(data_length);
-    check_head(own, padding, data_length, greatest, before.len())?;
-    let from = before.len() - own;
-    write_data_start(id, peer, data_length as u16, &mut before[from..]);
-    Ok(Head {
-        length: own,
-        padding,
-    })
+    write_peer_head(methods::DATA, id, peer, data_length, greatest, before)
 }

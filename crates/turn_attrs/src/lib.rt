@@ -15,7 +15,6 @@ mod icmp;
 mod kinds;
 mod laws;
 mod lifetime;
-mod lifetimes;
 pub mod methods;
 mod protocols;
 mod third_party;
@@ -28,7 +27,7 @@ pub use channel_data::{
 };
 pub use channels::Channel;
 pub use family::Ipv6AddressFamily;
-pub use heads::{Head, write_channel_head, write_data_head};
+pub use heads::{Head, write_channel_head, write_data_head, write_send_head};
 pub use icmp::IcmpError;
 pub use kinds::{
     AdditionalAddressFamily, AdditionalAddressFamilyKind, ChannelNumber, ChannelNumberKind,
@@ -39,7 +38,6 @@ pub use kinds::{
 };
 pub use laws::{address_error_is_read_back, channel_data_is_framed, fields_are_held};
 pub use lifetime::Lifetime;
-pub use lifetimes::{DEFAULT_LIFETIME, allocation_lifetime, refresh_lifetime};
 pub use protocols::{Protocol, protocol_in, protocol_of, stun_begins_low};
 pub use stun_framing::ChannelRange;
 pub use third_party::ThirdPartyAuthorization;
@@ -47,3 +45,4 @@ pub use tokens::{
     AccessToken, AccessTokenKind, ConnectionId, ConnectionIdKind, MobilityTicket,
     MobilityTicketKind, ReservationToken, ReservationTokenKind,
 };
+pub use turn_machine::{DEFAULT_LIFETIME, allocation_lifetime, refresh_lifetime};

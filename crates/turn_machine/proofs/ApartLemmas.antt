@@ -16,7 +16,7 @@ use Rattle.turn_machine.specs.Rows.{row, has_any, is_of_another, permissions_aft
 use Rattle.turn_machine.specs.Steps.{Step, changed, closing, is_wanted, lasting, permitting, binding, keeping, refreshes, fulfils, is_again, answers_again, serves, happens, step}
 use Rattle.turn_machine.specs.Runs.{Timed, Happening, initial_state, run, happening, history}
 use Rattle.turn_machine.specs.Granting.{given_of}
-use Rattle.turn_machine.proofs.AddressesLemmas.{tuple_same}
+use Rattle.stun_endpoints.proofs.AddressesLemmas.{tuple_same}
 use Rattle.turn_machine.proofs.ListsLemmas.{each_map, each_filter, any_none, find_true, left_false, count_filter}
 use Rattle.turn_machine.proofs.RowsLemmas.{row_none}
 use Rattle.turn_machine.proofs.CasesLemmas.{serve_cases}
@@ -215,26 +215,26 @@ serve_same setup rules tuple user request c n m one other isnt same =
 
 -- ---- Allocate: with the same answer, the same is kept
 
-again_same : (tuple : FiveTuple) (user id : ℕ) (one other : List Relay) → Part tuple one ≡ Part tuple other → list_any (λ a. is_owned tuple user a && (a.opened_by == id)) one ≡ list_any (λ a. is_owned tuple user a && (a.opened_by == id)) other
-again_same tuple user id one other same = same_any tuple (λ a. is_owned tuple user a && (a.opened_by == id)) (his_ours tuple user (λ a. a.opened_by == id)) one other same
+again_same : (tuple : FiveTuple) (user id : ℕ) (one other : List Relay) → Part tuple one ≡ Part tuple other → list_any (λ a. is_owned tuple user a && (a.transaction_id == id)) one ≡ list_any (λ a. is_owned tuple user a && (a.transaction_id == id)) other
+again_same tuple user id one other same = same_any tuple (λ a. is_owned tuple user a && (a.transaction_id == id)) (his_ours tuple user (λ a. a.transaction_id == id)) one other same
 
 -- a relayed address as it was opened, from what the client was given
-abbrev from_given : FiveTuple → (user id until : ℕ) → Given → Relay
-from_given tuple user id until g = record { tuple = tuple; user = user; opened_by = id; family = g.family; number = g.number; address = g.address; until = until; permissions = []; channels = [] }
+abbrev from_given : FiveTuple → (user id expires_at : ℕ) → Given → Relay
+from_given tuple user id expires_at g = record { tuple = tuple; user = user; transaction_id = id; family = g.family; number = g.number; address = g.address; expires_at = expires_at; permissions = []; channels = [] }
 
-part_from : (tuple : FiveTuple) (user id until : ℕ) (all : List Relay) → AllByRecursion (λ a. is_of tuple a ≡ true → a ≡ from_given tuple user id until (given_of a)) all → Part tuple all ≡ map (from_given tuple user id until) (map given_of (Part tuple all))
-part_from tuple user id until [] each = refl
-part_from tuple user id until (a ∷ all) each =
-    let more = part_from tuple user id until all each.1 in
-    cond_both (is_of tuple a) (a ∷ Part tuple all) (Part tuple all) (λ (l : List Relay). l ≡ map (from_given tuple user id until) (map given_of l))
-    (λ is. ap (λ (b : Relay). b ∷ Part tuple all) (each.0 is) ∙ ap (λ (l : List Relay). from_given tuple user id until (given_of a) ∷ l) more) (λ _. more)
+part_from : (tuple : FiveTuple) (user id expires_at : ℕ) (all : List Relay) → AllByRecursion (λ a. is_of tuple a ≡ true → a ≡ from_given tuple user id expires_at (given_of a)) all → Part tuple all ≡ map (from_given tuple user id expires_at) (map given_of (Part tuple all))
+part_from tuple user id expires_at [] each = refl
+part_from tuple user id expires_at (a ∷ all) each =
+    let more = part_from tuple user id expires_at all each.1 in
+    cond_both (is_of tuple a) (a ∷ Part tuple all) (Part tuple all) (λ (l : List Relay). l ≡ map (from_given tuple user id expires_at) (map given_of l))
+    (λ is. ap (λ (b : Relay). b ∷ Part tuple all) (each.0 is) ∙ ap (λ (l : List Relay). from_given tuple user id expires_at (given_of a) ∷ l) more) (λ _. more)
 
-opened_from : (setup : Setup) (tuple : FiveTuple) (user id until : ℕ) (wants : List Want) (state : State) → state.clock < until → list_any (is_of tuple) state.relays ≡ false
-    → AllByRecursion (λ a. is_of tuple a ≡ true → a ≡ from_given tuple user id until (given_of a)) (opens setup tuple user id until wants state).relays
-opened_from setup tuple user id until wants state soon free =
-    opens_keep setup (λ s. AllByRecursion (λ a. is_of tuple a ≡ true → a ≡ from_given tuple user id until (given_of a)) s.relays) tuple user id until
+opened_from : (setup : Setup) (tuple : FiveTuple) (user id expires_at : ℕ) (wants : List Want) (state : State) → state.clock < expires_at → list_any (is_of tuple) state.relays ≡ false
+    → AllByRecursion (λ a. is_of tuple a ≡ true → a ≡ from_given tuple user id expires_at (given_of a)) (opens setup tuple user id expires_at wants state).relays
+opened_from setup tuple user id expires_at wants state soon free =
+    opens_keep setup (λ s. AllByRecursion (λ a. is_of tuple a ≡ true → a ≡ from_given tuple user id expires_at (given_of a)) s.relays) tuple user id expires_at
     (λ want offer s _ _ _ each. (λ _. refl, each)) wants state soon
-    (each_map (λ a. is_of tuple a ≡ false) (λ a. is_of tuple a ≡ true → a ≡ from_given tuple user id until (given_of a)) (λ a isnt is. absurd (false≢true (sym isnt ∙ is))) state.relays (any_none (is_of tuple) state.relays free))
+    (each_map (λ a. is_of tuple a ≡ false) (λ a. is_of tuple a ≡ true → a ≡ from_given tuple user id expires_at (given_of a)) (λ a isnt is. absurd (false≢true (sym isnt ∙ is))) state.relays (any_none (is_of tuple) state.relays free))
 
 abbrev PartOf : FiveTuple → Step → List Relay
 PartOf tuple s = Part tuple s.state.relays
@@ -244,15 +244,15 @@ fulfilled_same : (setup : Setup) (tuple : FiveTuple) (user id : ℕ) (lifetime :
     → PartOf tuple (fulfils setup tuple user (allocate id lifetime wants) (Made c n one)) ≡ PartOf tuple (fulfils setup tuple user (allocate id lifetime wants) (Made c m other))
 fulfilled_same setup tuple user id lifetime wants c n m one other free free_too reply =
     let granted = granted_for lifetime setup.greatest_lifetime in
-    let until = c + seconds granted in
-    let a = opens setup tuple user id until wants (Made c n one) in
-    let b = opens setup tuple user id until wants (Made c m other) in
+    let expires_at = c + seconds granted in
+    let a = opens setup tuple user id expires_at wants (Made c n one) in
+    let b = opens setup tuple user id expires_at wants (Made c m other) in
     let e : answers tuple (allocated (given_to tuple a) granted (missing_to setup tuple wants a)) ≡ answers tuple (allocated (given_to tuple b) granted (missing_to setup tuple wants b)) = reply in
     let given_is : given_to tuple a ≡ given_to tuple b = cc in
     let soon = later c granted (granted_least lifetime setup.greatest_lifetime) in
-    part_from tuple user id until a.relays (opened_from setup tuple user id until wants (Made c n one) soon free)
-    ∙ (ap (λ (l : List Given). map (from_given tuple user id until) l) given_is
-    ∙ sym (part_from tuple user id until b.relays (opened_from setup tuple user id until wants (Made c m other) soon free_too)))
+    part_from tuple user id expires_at a.relays (opened_from setup tuple user id expires_at wants (Made c n one) soon free)
+    ∙ (ap (λ (l : List Given). map (from_given tuple user id expires_at) l) given_is
+    ∙ sym (part_from tuple user id expires_at b.relays (opened_from setup tuple user id expires_at wants (Made c m other) soon free_too)))
 
 fault_free : (setup : Setup) (rules : Rules) (tuple : FiveTuple) (user id : ℕ) (lifetime : Option ℕ) (wants : List Want) (state : State) → fault setup rules state tuple user (allocate id lifetime wants) ≡ None → list_any (is_of tuple) state.relays ≡ false
 fault_free setup rules tuple user id lifetime wants state fit = (row_none (has_any tuple state) 437 _ fit).0

@@ -15,38 +15,38 @@ use Rattle.turn_machine.specs.Warrants.{Opens, is_refresh, refreshed_in, refresh
 use Rattle.turn_machine.proofs.ListsLemmas.{each_map}
 
 -- as `Permits` and `Binds`, until a moment
-pub record Installs (tuple : FiveTuple) (user : ℕ) (ip : Ip) (until : ℕ) (h : Happening) : Type 0 where
+pub record Installs (tuple : FiveTuple) (user : ℕ) (ip : Ip) (expires_at : ℕ) (h : Happening) : Type 0 where
   pub request : Request
   pub asked : h.event ≡ asks tuple user request
   pub named : names ip request ≡ true
   pub allowed : h.rules.allows_ip ip ≡ true
   pub succeeded : h.output ≡ answers tuple done
-  pub ends : h.moment + seconds 300 ≡ until
+  pub ends : h.moment + seconds 300 ≡ expires_at
 
-pub record Attaches (tuple : FiveTuple) (user number : ℕ) (peer : Endpoint) (until : ℕ) (h : Happening) : Type 0 where
+pub record Attaches (tuple : FiveTuple) (user number : ℕ) (peer : Endpoint) (expires_at : ℕ) (h : Happening) : Type 0 where
   pub asked : h.event ≡ asks tuple user (bind number peer)
   pub allowed : allows h.rules peer ≡ true
   pub succeeded : h.output ≡ answers tuple done
-  pub ends : h.moment + seconds 600 ≡ until
+  pub ends : h.moment + seconds 600 ≡ expires_at
 
 -- as `BindsTo`
-pub record AttachesTo (tuple : FiveTuple) (user : ℕ) (ip : Ip) (until : ℕ) (h : Happening) : Type 0 where
+pub record AttachesTo (tuple : FiveTuple) (user : ℕ) (ip : Ip) (expires_at : ℕ) (h : Happening) : Type 0 where
   pub channel : ℕ
   pub peer : Endpoint
   pub ip_is : peer.ip ≡ ip
-  pub attaches : Attaches tuple user channel peer until h
+  pub attaches : Attaches tuple user channel peer expires_at h
 
 -- as `ArePermitting`
-abbrev pub AreInstalling : Setup → FiveTuple → (user : ℕ) → Ip → (until : ℕ) → List Happening → Type 0
-AreInstalling setup tuple user ip until since =
-    SomeOf (Installs tuple user ip until) since ⊎ ((setup.channel_permits ≡ true) × SomeSince (AttachesTo tuple user ip until) (λ h. ¬ (Renews tuple user ip h)) since)
+abbrev pub AreInstalling : Setup → FiveTuple → (user : ℕ) → Ip → (expires_at : ℕ) → List Happening → Type 0
+AreInstalling setup tuple user ip expires_at since =
+    SomeOf (Installs tuple user ip expires_at) since ⊎ ((setup.channel_permits ≡ true) × SomeSince (AttachesTo tuple user ip expires_at) (λ h. ¬ (Renews tuple user ip h)) since)
 
 pub record IsInstalled (setup : Setup) (since : List Happening) (tuple : FiveTuple) (user family : ℕ) (p : Permission) : Type 0 where
-  pub by : AreInstalling setup tuple user p.ip p.until since
+  pub by : AreInstalling setup tuple user p.ip p.expires_at since
   pub family_is : p.ip.family ≡ family
 
 pub record IsAttached (since : List Happening) (tuple : FiveTuple) (user family : ℕ) (c : Channel) : Type 0 where
-  pub by : SomeOf (Attaches tuple user c.number c.peer c.until) since
+  pub by : SomeOf (Attaches tuple user c.number c.peer c.expires_at) since
   pub family_is : c.peer.ip.family ≡ family
 
 pub record IsBacked (setup : Setup) (earlier : List Happening) (a : Relay) : Type 0 where
@@ -55,7 +55,7 @@ pub record IsBacked (setup : Setup) (earlier : List Happening) (a : Relay) : Typ
   pub before : List Happening
   pub split : earlier ≡ since ++ opening ∷ before
   pub opens : Opens a.tuple a.user a.family a.number opening
-  pub kept : a.until ≤ end_of a.tuple a.user a.family a.number (opening.moment + seconds opens.granted) since
+  pub kept : a.expires_at ≤ end_of a.tuple a.user a.family a.number (opening.moment + seconds opens.granted) since
   pub permissions : AllByRecursion (IsInstalled setup since a.tuple a.user a.family) a.permissions
   pub channels : AllByRecursion (IsAttached since a.tuple a.user a.family) a.channels
 
@@ -64,7 +64,7 @@ pub record IsBacked (setup : Setup) (earlier : List Happening) (a : Relay) : Typ
 -- also after another happening that is no CreatePermission request for its IP address
 pub installed_on : (setup : Setup) (h : Happening) (since : List Happening) (tuple : FiveTuple) (user family : ℕ) (p : Permission) → ¬ (Renews tuple user p.ip h) → IsInstalled setup since tuple user family p → IsInstalled setup (h ∷ since) tuple user family p
 installed_on setup h since tuple user family p never is =
-    let by : AreInstalling setup tuple user p.ip p.until (h ∷ since) = elim is.by [
+    let by : AreInstalling setup tuple user p.ip p.expires_at (h ∷ since) = elim is.by [
       | inl some ↦ inl (inr some)
       | inr long ↦ inr (long.0, inr (never, long.1))
     ] in
@@ -79,7 +79,7 @@ channels_on h since tuple user family cs =
     each_map (IsAttached since tuple user family) (IsAttached (h ∷ since) tuple user family) (λ c is. record { by = inr is.by; family_is = is.family_is }) cs
 
 pub backed_later : (setup : Setup) (h : Happening) (hs : List Happening) (a : Relay) (b : IsBacked setup hs a) → ((ip : Ip) → ¬ (Renews a.tuple a.user ip h))
-    → a.until ≤ end_of a.tuple a.user a.family a.number (b.opening.moment + seconds b.opens.granted) (h ∷ b.since) → IsBacked setup (h ∷ hs) a
+    → a.expires_at ≤ end_of a.tuple a.user a.family a.number (b.opening.moment + seconds b.opens.granted) (h ∷ b.since) → IsBacked setup (h ∷ hs) a
 backed_later setup h hs a b never end = record {
   since = h ∷ b.since;
   opening = b.opening;
@@ -93,10 +93,10 @@ backed_later setup h hs a b never end = record {
 
 -- the end stays, unless a Refresh request of the client succeeds, or the caller ends it
 pub end_on : (setup : Setup) (h : Happening) (hs : List Happening) (a : Relay) (b : IsBacked setup hs a) → is_ended a.user a.number h.event ≡ false → refreshed_to a.tuple a.user a.family h ≡ None
-    → a.until ≤ end_of a.tuple a.user a.family a.number (b.opening.moment + seconds b.opens.granted) (h ∷ b.since)
+    → a.expires_at ≤ end_of a.tuple a.user a.family a.number (b.opening.moment + seconds b.opens.granted) (h ∷ b.since)
 end_on setup h hs a b not_ended not_refreshed =
     let rest = end_of a.tuple a.user a.family a.number (b.opening.moment + seconds b.opens.granted) b.since in
-    subst (λ (n : ℕ). a.until ≤ n)
+    subst (λ (n : ℕ). a.expires_at ≤ n)
     (sym (cond-false (is_ended a.user a.number h.event) 0 (option_map_or (λ lifetime. h.moment + seconds lifetime) (refreshed_to a.tuple a.user a.family h) rest) not_ended
     ∙ ap (λ (o : Option ℕ). option_map_or (λ lifetime. h.moment + seconds lifetime) o rest) not_refreshed)) b.kept
 

@@ -18,7 +18,7 @@ use Rattle.turn_machine.specs.Data.{allows}
 use Rattle.turn_machine.specs.Steps.{Step, changed, without, closing, is_wanted, lasting, permitting, binding, keeping, refreshes, fulfils, serves, happens, step}
 use Rattle.turn_machine.specs.Runs.{Timed, Happening, run, happening, history}
 use Rattle.turn_machine.specs.Warrants.{is_refresh, refreshed_in, refreshed_to, is_ended, end_of, names, Renews}
-use Rattle.turn_machine.proofs.AddressesLemmas.{tuple_same, tuple_is_itself, ip_same, ip_is_itself}
+use Rattle.stun_endpoints.proofs.AddressesLemmas.{tuple_same, tuple_is_itself, ip_same, ip_is_itself}
 use Rattle.turn_machine.specs.Granting.{given_of}
 use Rattle.turn_machine.proofs.ListsLemmas.{each_map, each_both, each_filter, each_filtered, each_mapped, all_each, left_false, right_false}
 use Rattle.turn_machine.proofs.RowsLemmas.{not_true, not_yes, permit_none, bind_none}
@@ -81,7 +81,7 @@ renewed_all setup h since tuple user family now request (peer ∷ peers) ps mome
         | inl new ↦ inl new
         | inr old ↦ inr (
           old.0,
-          or_from (is_ip p.ip peer.ip) (list_any (λ (q : Endpoint). is_ip p.ip q.ip) peers) (apart_ip p.ip peer.ip (not_yes (is_ip peer.ip p.ip) (and_parts (not (is_ip peer.ip p.ip)) (nat_lt now p.until) other).0)) old.1,
+          or_from (is_ip p.ip peer.ip) (list_any (λ (q : Endpoint). is_ip p.ip q.ip) peers) (apart_ip p.ip peer.ip (not_yes (is_ip peer.ip p.ip) (and_parts (not (is_ip peer.ip p.ip)) (nat_lt now p.expires_at) other).0)) old.1,
         )
       ]) (with_permissions now peers ps) (renewed_all setup h since tuple user family now request peers ps moment asked reply fit.1 each),
 )
@@ -182,7 +182,7 @@ lasting_backed setup h hs now rules tuple user granted wanted lifetime a says b 
     let test = is_owned tuple user a && is_wanted wanted a in
     let is : is_refresh a.tuple a.user a.family h.event ≡ test = ap (is_refresh a.tuple a.user a.family) says.asked in
     let calm : is_ended a.user a.number h.event ≡ false = ap (is_ended a.user a.number) says.asked in
-    let after : Relay = record a { until = now + seconds granted } in
+    let after : Relay = record a { expires_at = now + seconds granted } in
     let same : test ≡ false → IsBacked setup (h ∷ hs) a = λ off. backed_on setup h hs a calm (not_refresh a.tuple a.user a.family h (is ∙ off)) never b in
     cond_both (is_owned tuple user a) (lasting wanted (now + seconds granted) a) a (IsBacked setup (h ∷ hs))
     (λ his. cond_both (is_wanted wanted a) after a (IsBacked setup (h ∷ hs))
@@ -213,15 +213,15 @@ without_backed setup h hs test state on each =
 -- ---- Allocate
 
 -- backed, or new
-record IsNew (tuple : FiveTuple) (user until : ℕ) (a : Relay) : Type 0 where
+record IsNew (tuple : FiveTuple) (user expires_at : ℕ) (a : Relay) : Type 0 where
   tuple_is : a.tuple ≡ tuple
   user_is : a.user ≡ user
-  until_is : a.until ≡ until
+  until_is : a.expires_at ≡ expires_at
   no_permissions : a.permissions ≡ []
   no_channels : a.channels ≡ []
 
-abbrev IsEither : Setup → Happening → List Happening → FiveTuple → (user until : ℕ) → Relay → Type 0
-IsEither setup h hs tuple user until a = IsBacked setup (h ∷ hs) a ⊎ IsNew tuple user until a
+abbrev IsEither : Setup → Happening → List Happening → FiveTuple → (user expires_at : ℕ) → Relay → Type 0
+IsEither setup h hs tuple user expires_at a = IsBacked setup (h ∷ hs) a ⊎ IsNew tuple user expires_at a
 
 -- each relayed address of the client is among those that it is given
 each_given : (tuple : FiveTuple) (all : List Relay) → AllByRecursion (λ a. is_of tuple a ≡ true → SomeOf (λ g. (g.family ≡ a.family) × (g.number ≡ a.number)) (map given_of (filter (is_of tuple) all))) all
@@ -265,14 +265,14 @@ allocate_backed : (h : Happening) (hs : List Happening) (setup : Setup) (rules :
     → Says h state.clock rules tuple user (allocate id lifetime wants) (answers tuple (allocated (given_to tuple after) granted (missing_to setup tuple wants after)))
     → AreBacked setup hs state → AreBacked setup (h ∷ hs) after
 allocate_backed h hs setup rules tuple user id granted lifetime wants state least says each =
-    let until = state.clock + seconds granted in
-    let after = opens setup tuple user id until wants state in
-    let on : AllByRecursion (IsEither setup h hs tuple user until) state.relays = each_map (IsBacked setup hs) (IsEither setup h hs tuple user until)
+    let expires_at = state.clock + seconds granted in
+    let after = opens setup tuple user id expires_at wants state in
+    let on : AllByRecursion (IsEither setup h hs tuple user expires_at) state.relays = each_map (IsBacked setup hs) (IsEither setup h hs tuple user expires_at)
     (λ a b. inl (backed_on setup h hs a (ap (is_ended a.user a.number) says.asked) (not_refreshed a.tuple a.user a.family h (ap refreshed_in says.reply))
     (λ ip r. let e : asks tuple user (allocate id lifetime wants) ≡ asks a.tuple a.user (permit r.peers) = sym says.asked ∙ r.asked in absurd cc) b)) state.relays each in
-    let either : AllByRecursion (IsEither setup h hs tuple user until) after.relays = opens_keep setup (λ s. AllByRecursion (IsEither setup h hs tuple user until) s.relays) tuple user id until
+    let either : AllByRecursion (IsEither setup h hs tuple user expires_at) after.relays = opens_keep setup (λ s. AllByRecursion (IsEither setup h hs tuple user expires_at) s.relays) tuple user id expires_at
     (λ want offer s _ _ _ q. (inr (record { tuple_is = refl; user_is = refl; until_is = refl; no_permissions = refl; no_channels = refl }), q)) wants state (later state.clock granted least) on in
-    each_both (IsEither setup h hs tuple user until) (λ a. is_of tuple a ≡ true → SomeOf (λ g. (g.family ≡ a.family) × (g.number ≡ a.number)) (given_to tuple after)) (IsBacked setup (h ∷ hs))
+    each_both (IsEither setup h hs tuple user expires_at) (λ a. is_of tuple a ≡ true → SomeOf (λ g. (g.family ≡ a.family) × (g.number ≡ a.number)) (given_to tuple after)) (IsBacked setup (h ∷ hs))
     (λ a one among. elim one [
       | inl b ↦ b
       | inr new ↦ new_backed h hs setup state.clock rules tuple user id granted lifetime wants after a says among new

@@ -12,7 +12,7 @@ use Rattle.turn_machine.specs.Opening.{opened, with_relay}
 use Rattle.turn_machine.specs.Rows.{clashes, is_bound_otherwise, is_other_channel, with_channel, fault}
 use Rattle.turn_machine.specs.Steps.{changed, is_wanted, lasting, permitting, binding}
 use Rattle.turn_machine.specs.Runs.{Timed, run}
-use Rattle.turn_machine.proofs.AddressesLemmas.{endpoint_same, tuple_same}
+use Rattle.stun_endpoints.proofs.AddressesLemmas.{endpoint_same, tuple_same}
 use Rattle.turn_machine.proofs.ListsLemmas.{each_filter, any_none, right_false, count_cons, count_map, count_filter, any_filter}
 use Rattle.turn_machine.proofs.RowsLemmas.{bind_none}
 use Rattle.turn_machine.proofs.KeepingLemmas.{Keeps, Anyone, run_keeps}
@@ -92,7 +92,7 @@ other_family c m tuple number peer a le families free has differ =
     let clash = any_none (clashes c number peer) a.channels (no_clash (is_of tuple a) (list_any (clashes c number peer) a.channels) free both.0) in
     one_of (λ d. (d.peer.ip.family ≡ a.family) × (clashes c number peer d ≡ false)) (is_channel m number) a.channels (each_both (λ d. d.peer.ip.family ≡ a.family) (λ d. clashes c number peer d ≡ false) (λ d. (d.peer.ip.family ≡ a.family) × (clashes c number peer d ≡ false)) (λ d x y. (x, y)) a.channels families clash) both.1
     (λ d p is.
-    let parts = and_parts (d.number == number) (nat_lt m d.until) is in
+    let parts = and_parts (d.number == number) (nat_lt m d.expires_at) is in
     let e = endpoint_same d.peer peer (same_number c m number peer d le p.1 parts.1 parts.0) in
     false≢true (sym differ ∙ eq-eqb a.family peer.ip.family (sym p.0 ∙ ap (λ (x : Endpoint). x.ip.family) e)))
 
@@ -156,9 +156,9 @@ bound_once rules setup tuple user number peer state fit has t m channel le =
     omega (arith, less, before))
     (same_cond (is_tuple t tuple))
 
-opened_once : (m : ℕ) (t : FiveTuple) (channel : ℕ) (tuple : FiveTuple) (user id until family : ℕ) (state : State) (offer : Offer) → count_by (has_channel m t channel) state.relays ≤ 1 → count_by (has_channel m t channel) (with_relay tuple user id until family state offer).relays ≤ 1
-opened_once m t channel tuple user id until family state offer le =
-    let a = opened tuple user id until family state offer in
+opened_once : (m : ℕ) (t : FiveTuple) (channel : ℕ) (tuple : FiveTuple) (user id expires_at family : ℕ) (state : State) (offer : Offer) → count_by (has_channel m t channel) state.relays ≤ 1 → count_by (has_channel m t channel) (with_relay tuple user id expires_at family state offer).relays ≤ 1
+opened_once m t channel tuple user id expires_at family state offer le =
+    let a = opened tuple user id expires_at family state offer in
     let none : has_channel m t channel a ≡ false = right_false (is_of t a) false refl in
     let counted = count_cons (has_channel m t channel) a state.relays ∙ ap (λ (b : Bool). cond b 1 0 + count_by (has_channel m t channel) state.relays) none in
     omega (arith, counted, le)
@@ -171,20 +171,20 @@ once_kept setup =
         families = each_filter AreOfFamily (is_live (max state.clock now)) state.relays h.families;
         once = λ t m channel le. let fewer = count_filter (has_channel m t channel) (is_live (max state.clock now)) state.relays in let o = h.once t m channel (omega (arith, le)) in omega (arith, fewer, o);
       };
-      opened = λ tuple user id until want offer state who later can h. record {
-        single = s.opened tuple user id until want offer state who later can h.single;
+      opened = λ tuple user id expires_at want offer state who later can h. record {
+        single = s.opened tuple user id expires_at want offer state who later can h.single;
         families = (tt, h.families);
-        once = λ t m channel le. opened_once m t channel tuple user id until want.family state offer (h.once t m channel le);
+        once = λ t m channel le. opened_once m t channel tuple user id expires_at want.family state offer (h.once t m channel le);
       };
       ended = λ test state h. record {
         single = s.ended test state h.single;
         families = each_filter AreOfFamily (λ a. not (test a)) state.relays h.families;
         once = λ t m channel le. let fewer = count_filter (has_channel m t channel) (λ a. not (test a)) state.relays in let o = h.once t m channel le in omega (arith, fewer, o);
       };
-      lasted = λ tuple user family until state later h. record {
-        single = s.lasted tuple user family until state later h.single;
-        families = each_changed AreOfFamily AreOfFamily tuple user (lasting family until) state (λ a f. f) (λ a _ f. cond_both (is_wanted family a) (record a { until = until }) a AreOfFamily (λ _. f) (λ _. f)) h.families;
-        once = same_once tuple user (lasting family until) state (lasting_same (λ b. b.tuple) family until (λ _. refl)) (lasting_same (λ b. b.channels) family until (λ _. refl)) h.once;
+      lasted = λ tuple user family expires_at state later h. record {
+        single = s.lasted tuple user family expires_at state later h.single;
+        families = each_changed AreOfFamily AreOfFamily tuple user (lasting family expires_at) state (λ a f. f) (λ a _ f. cond_both (is_wanted family a) (record a { expires_at = expires_at }) a AreOfFamily (λ _. f) (λ _. f)) h.families;
+        once = same_once tuple user (lasting family expires_at) state (lasting_same (λ b. b.tuple) family expires_at (λ _. refl)) (lasting_same (λ b. b.channels) family expires_at (λ _. refl)) h.once;
       };
       permitted = λ rules tuple user peers state fit h. record {
         single = s.permitted rules tuple user peers state fit h.single;

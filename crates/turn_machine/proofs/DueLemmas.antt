@@ -13,7 +13,7 @@ use Rattle.turn_machine.specs.Events.{sends, sends_on, arrives, bounces}
 use Rattle.turn_machine.specs.Times.{at}
 use Rattle.turn_machine.specs.Runs.{Timed, Happening, run, history}
 use Rattle.turn_machine.specs.Warrants.{Binds}
-use Rattle.turn_machine.proofs.AddressesLemmas.{endpoint_is_itself, tuple_same}
+use Rattle.stun_endpoints.proofs.AddressesLemmas.{endpoint_is_itself, tuple_same}
 use Rattle.turn_machine.proofs.ListsLemmas.{find_true, count_filter, some_any}
 use Rattle.turn_machine.proofs.GrantedLemmas.{found_is}
 use Rattle.turn_machine.specs.Events.{Icmp, to_peer, to_client, to_client_on, to_client_icmp, nothing}
@@ -166,8 +166,8 @@ comes_by_channel setup earlier now rules tuple number peer channel bytes due all
     let n = Moment setup earlier now in
     let held = held_for setup earlier now tuple number peer (Both setup tuple channel peer n) due in
     let has = held.bound channel due.asked.1 in
-    let test = and_parts (has.c.number == channel) (nat_lt n has.c.until) (find_true (is_channel n channel) held.a.channels has.c has.found) in
-    let of_peer : is_channel_of n peer has.c ≡ true = and_from (is_endpoint has.c.peer peer) (nat_lt n has.c.until) (subst (λ (e : Endpoint). is_endpoint e peer ≡ true) (sym has.is_dest) (endpoint_is_itself peer)) test.1 in
+    let test = and_parts (has.c.number == channel) (nat_lt n has.c.expires_at) (find_true (is_channel n channel) held.a.channels has.c has.found) in
+    let of_peer : is_channel_of n peer has.c ≡ true = and_from (is_endpoint has.c.peer peer) (nat_lt n has.c.expires_at) (subst (λ (e : Endpoint). is_endpoint e peer ≡ true) (sym has.is_dest) (endpoint_is_itself peer)) test.1 in
     let some = some_found (is_channel_of n peer) held.a.channels (some_any (is_channel_of n peer) held.a.channels (some_map (λ d. d ≡ has.c) (λ d. is_channel_of n peer d ≡ true) (λ d same. subst (λ (x : Channel). is_channel_of n peer x ≡ true) (sym same) of_peer) held.a.channels (found_some (is_channel n channel) held.a.channels has.c has.found))) in
     let number_is : some.0.number ≡ channel = found_is (λ d. is_channel_of n peer d ≡ true → d.number ≡ channel) (is_channel_of n peer) held.a.channels some.0 some.1 has.only (find_true (is_channel_of n peer) held.a.channels some.0 some.1) in
     received_is setup earlier now rules tuple number peer bytes (Both setup tuple channel peer n) due held (permitted_by setup earlier now tuple number peer (Both setup tuple channel peer n) due held due.asked.0) allowed

@@ -17,7 +17,7 @@ use Rattle.turn_machine.specs.Steps.{Step, changed, without, closing, is_wanted,
 use Rattle.turn_machine.specs.Runs.{Timed, run, happening}
 use Rattle.turn_machine.specs.Works.{output_of}
 use Rattle.turn_machine.specs.Flows.{Flow, flow_with, flow_by, flow_on, flow_of, IsRelayed, is_refusal, is_change, IsLeft, IsFirstEnd}
-use Rattle.turn_machine.proofs.AddressesLemmas.{ip_same, tuple_same, endpoint_is_itself}
+use Rattle.stun_endpoints.proofs.AddressesLemmas.{ip_same, tuple_same, endpoint_is_itself}
 use Rattle.turn_machine.proofs.ListsLemmas.{each_map, each_always, each_filtered, find_true, some_map, some_any, any_some, any_none, left_false, right_false, either_false, count_cons, count_filter}
 use Rattle.turn_machine.proofs.RowsLemmas.{not_true, not_no}
 use Rattle.turn_machine.proofs.CasesLemmas.{serve_cases}
@@ -116,13 +116,13 @@ from_cond : (b : Bool) (o output : Output) → (nothing ≡ output → ⊥) → 
 from_cond true o output never is = (refl, is)
 from_cond false o output never is = absurd (never is)
 
-sooner : (now m until : ℕ) → now ≤ m → nat_lt m until ≡ true → nat_lt now until ≡ true
-sooner now m until le lasts = let l = ltb-true m until lasts in lt-ltb now until (omega (arith, le, l))
+sooner : (now m expires_at : ℕ) → now ≤ m → nat_lt m expires_at ≡ true → nat_lt now expires_at ≡ true
+sooner now m expires_at le lasts = let l = ltb-true m expires_at lasts in lt-ltb now expires_at (omega (arith, le, l))
 
 channel_sooner : (now m channel : ℕ) → now ≤ m → (c : Channel) → is_channel m channel c ≡ true → is_channel now channel c ≡ true
 channel_sooner now m channel le c is =
-    let both = and_parts (c.number == channel) (nat_lt m c.until) is in
-    and_from (c.number == channel) (nat_lt now c.until) both.0 (sooner now m c.until le both.1)
+    let both = and_parts (c.number == channel) (nat_lt m c.expires_at) is in
+    and_from (c.number == channel) (nat_lt now c.expires_at) both.0 (sooner now m c.expires_at le both.1)
 
 has_sooner : (now m : ℕ) (tuple : FiveTuple) (channel : ℕ) → now ≤ m → (a : Relay) → has_channel m tuple channel a ≡ true → has_channel now tuple channel a ≡ true
 has_sooner now m tuple channel le a is =
@@ -132,8 +132,8 @@ has_sooner now m tuple channel le a is =
 
 permission_sooner : (now m : ℕ) (peer : Endpoint) → now ≤ m → (p : Permission) → is_permission m peer.ip p ≡ true → is_permission now peer.ip p ≡ true
 permission_sooner now m peer le p is =
-    let both = and_parts (is_ip peer.ip p.ip) (nat_lt m p.until) is in
-    and_from (is_ip peer.ip p.ip) (nat_lt now p.until) both.0 (sooner now m p.until le both.1)
+    let both = and_parts (is_ip peer.ip p.ip) (nat_lt m p.expires_at) is in
+    and_from (is_ip peer.ip p.ip) (nat_lt now p.expires_at) both.0 (sooner now m p.expires_at le both.1)
 
 -- ---- What is held for a flow
 
@@ -165,21 +165,21 @@ flow_is tuple channel flow state e =
 
 -- ---- Time
 
-pub holds_at : (tuple : FiveTuple) (channel : ℕ) (a : Relay) (c : Channel) (p : Permission) (state : State) (now : ℕ) → max state.clock now < min a.until (min c.until p.until) → Holds tuple channel a c p state → Holds tuple channel a c p (at now state)
+pub holds_at : (tuple : FiveTuple) (channel : ℕ) (a : Relay) (c : Channel) (p : Permission) (state : State) (now : ℕ) → max state.clock now < min a.expires_at (min c.expires_at p.expires_at) → Holds tuple channel a c p state → Holds tuple channel a c p (at now state)
 holds_at tuple channel a c p state now soon h =
     let m = max state.clock now in
     let le : state.clock ≤ m = omega arith in
-    let c_now = and_parts (c.number == channel) (nat_lt state.clock c.until) (find_true (is_channel state.clock channel) a.channels c h.bound) in
-    let p_now = and_parts (is_ip c.peer.ip p.ip) (nat_lt state.clock p.until) (find_true (is_permission state.clock c.peer.ip) a.permissions p h.permitted) in
+    let c_now = and_parts (c.number == channel) (nat_lt state.clock c.expires_at) (find_true (is_channel state.clock channel) a.channels c h.bound) in
+    let p_now = and_parts (is_ip c.peer.ip p.ip) (nat_lt state.clock p.expires_at) (find_true (is_permission state.clock c.peer.ip) a.permissions p h.permitted) in
     let a_now = and_parts (is_of tuple a) (list_any (is_channel state.clock channel) a.channels) (find_true (has_channel state.clock tuple channel) state.relays a h.relay) in
-    let bound = found_still (is_channel state.clock channel) (is_channel m channel) a.channels c (channel_sooner state.clock m channel le) h.bound (and_from (c.number == channel) (nat_lt m c.until) c_now.0 (lt-ltb m c.until (omega (arith, soon)))) in
+    let bound = found_still (is_channel state.clock channel) (is_channel m channel) a.channels c (channel_sooner state.clock m channel le) h.bound (and_from (c.number == channel) (nat_lt m c.expires_at) c_now.0 (lt-ltb m c.expires_at (omega (arith, soon)))) in
     record {
       relay = find_kept (has_channel m tuple channel) (is_live m) state.relays a
           (found_still (has_channel state.clock tuple channel) (has_channel m tuple channel) state.relays a (has_sooner state.clock m tuple channel le) h.relay
           (and_from (is_of tuple a) (list_any (is_channel m channel) a.channels) a_now.0 (found_any (is_channel m channel) a.channels c bound)))
-          (lt-ltb m a.until (omega (arith, soon)));
+          (lt-ltb m a.expires_at (omega (arith, soon)));
       bound = bound;
-      permitted = found_still (is_permission state.clock c.peer.ip) (is_permission m c.peer.ip) a.permissions p (permission_sooner state.clock m c.peer le) h.permitted (and_from (is_ip c.peer.ip p.ip) (nat_lt m p.until) p_now.0 (lt-ltb m p.until (omega (arith, soon))));
+      permitted = found_still (is_permission state.clock c.peer.ip) (is_permission m c.peer.ip) a.permissions p (permission_sooner state.clock m c.peer le) h.permitted (and_from (is_ip c.peer.ip p.ip) (nat_lt m p.expires_at) p_now.0 (lt-ltb m p.expires_at (omega (arith, soon))));
     }
 
 -- ---- Requests of others
@@ -208,11 +208,11 @@ ended_others tuple channel test a c p state stays h = record {
   permitted = h.permitted;
 }
 
-opened_others : (setup : Setup) (tuple other : FiveTuple) (channel user id until : ℕ) (wants : List Want) (a : Relay) (c : Channel) (p : Permission) (state : State) → state.clock < until → Holds tuple channel a c p state → Holds tuple channel a c p (opens setup other user id until wants state)
-opened_others setup tuple other channel user id until wants a c p state soon h =
-    opens_keep setup (Holds tuple channel a c p) other user id until
+opened_others : (setup : Setup) (tuple other : FiveTuple) (channel user id expires_at : ℕ) (wants : List Want) (a : Relay) (c : Channel) (p : Permission) (state : State) → state.clock < expires_at → Holds tuple channel a c p state → Holds tuple channel a c p (opens setup other user id expires_at wants state)
+opened_others setup tuple other channel user id expires_at wants a c p state soon h =
+    opens_keep setup (Holds tuple channel a c p) other user id expires_at
     (λ want offer s _ _ _ before.
-    let new = opened other user id until want.family s offer in record {
+    let new = opened other user id expires_at want.family s offer in record {
       relay = cond-false (has_channel s.clock tuple channel new) (Some new) (find (has_channel s.clock tuple channel) s.relays) (right_false (is_of tuple new) false refl) ∙ before.relay;
       bound = before.bound;
       permitted = before.permitted;
@@ -269,7 +269,7 @@ stays setup rules tuple channel user number a c p state now (ends_user u) user_i
 stays setup rules tuple channel user number a c p state now ticks user_is number_is none h = h
 
 stay : (setup : Setup) (tuple : FiveTuple) (channel user number : ℕ) (a : Relay) (c : Channel) (p : Permission) (since earlier : List Timed) → a.user ≡ user → a.number ≡ number → IsLeft setup tuple user number since earlier
-    → (run setup (since ++ earlier)).clock < min a.until (min c.until p.until) → Holds tuple channel a c p (run setup earlier) → Holds tuple channel a c p (run setup (since ++ earlier))
+    → (run setup (since ++ earlier)).clock < min a.expires_at (min c.expires_at p.expires_at) → Holds tuple channel a c p (run setup earlier) → Holds tuple channel a c p (run setup (since ++ earlier))
 stay setup tuple channel user number a c p [] earlier user_is number_is left soon h = h
 stay setup tuple channel user number a c p (t ∷ since) earlier user_is number_is left soon h =
     let state = run setup (since ++ earlier) in
@@ -296,8 +296,8 @@ comes_back setup earlier tuple channel a c p now rules bytes first h allowed =
     let fewer = count_filter (is_at a.number) (is_live m) state.relays in
     let at_socket = found_too (has_channel m tuple channel) (is_at a.number) (at now state).relays a h.relay (eq-eqb a.number a.number refl) (omega (arith, once, fewer)) in
     let unique = found_is IsUnique (has_channel state.clock tuple channel) state.relays a first.relay (run_unique setup earlier) in
-    let live = and_parts (c.number == channel) (nat_lt m c.until) (find_true (is_channel m channel) a.channels c h.bound) in
-    let of_peer = found_too (is_channel m channel) (is_channel_of m c.peer) a.channels c h.bound (and_from (is_endpoint c.peer c.peer) (nat_lt m c.until) (endpoint_is_itself c.peer) live.1) (unique.peer m c.peer) in
+    let live = and_parts (c.number == channel) (nat_lt m c.expires_at) (find_true (is_channel m channel) a.channels c h.bound) in
+    let of_peer = found_too (is_channel m channel) (is_channel_of m c.peer) a.channels c h.bound (and_from (is_endpoint c.peer c.peer) (nat_lt m c.expires_at) (endpoint_is_itself c.peer) live.1) (unique.peer m c.peer) in
     let permitted = found_any (is_permission m c.peer.ip) a.permissions p h.permitted in
     let his : a.tuple ≡ tuple = sym (tuple_same tuple a.tuple (and_parts (is_of tuple a) (list_any (is_channel m channel) a.channels) (find_true (has_channel m tuple channel) (at now state).relays a h.relay)).0) in
     ap (λ (o : Option Relay). option_map_or (received rules m c.peer bytes) o nothing) at_socket
@@ -307,12 +307,12 @@ comes_back setup earlier tuple channel a c p now rules bytes first h allowed =
     ∙ (ap (λ (t : FiveTuple). to_client_on t c.number bytes) his ∙ ap (λ (k : ℕ). to_client_on tuple k bytes) (eqb-true c.number channel live.0))))
 
 -- a flow has begun, and not ended
-begun_yet : (setup : Setup) (earlier : List Timed) (tuple : FiveTuple) (channel : ℕ) (a : Relay) (c : Channel) (p : Permission) → Holds tuple channel a c p (run setup earlier) → (run setup earlier).clock < min a.until (min c.until p.until)
+begun_yet : (setup : Setup) (earlier : List Timed) (tuple : FiveTuple) (channel : ℕ) (a : Relay) (c : Channel) (p : Permission) → Holds tuple channel a c p (run setup earlier) → (run setup earlier).clock < min a.expires_at (min c.expires_at p.expires_at)
 begun_yet setup earlier tuple channel a c p h =
     let state = run setup earlier in
-    let one = found_is (λ b. state.clock < b.until) (has_channel state.clock tuple channel) state.relays a h.relay (run_live setup earlier) in
-    let two = ltb-true state.clock c.until (and_parts (c.number == channel) (nat_lt state.clock c.until) (find_true (is_channel state.clock channel) a.channels c h.bound)).1 in
-    let three = ltb-true state.clock p.until (and_parts (is_ip c.peer.ip p.ip) (nat_lt state.clock p.until) (find_true (is_permission state.clock c.peer.ip) a.permissions p h.permitted)).1 in
+    let one = found_is (λ b. state.clock < b.expires_at) (has_channel state.clock tuple channel) state.relays a h.relay (run_live setup earlier) in
+    let two = ltb-true state.clock c.expires_at (and_parts (c.number == channel) (nat_lt state.clock c.expires_at) (find_true (is_channel state.clock channel) a.channels c h.bound)).1 in
+    let three = ltb-true state.clock p.expires_at (and_parts (is_ip c.peer.ip p.ip) (nat_lt state.clock p.expires_at) (find_true (is_permission state.clock c.peer.ip) a.permissions p h.permitted)).1 in
     omega (arith, one, two, three)
 
 relayed_by : (setup : Setup) (earlier : List Timed) (tuple : FiveTuple) (channel : ℕ) (a : Relay) (c : Channel) (p : Permission) → Holds tuple channel a c p (run setup earlier) → IsRelayed setup earlier tuple channel (flow_with a c p)
@@ -328,13 +328,13 @@ relayed_now setup earlier tuple channel flow e =
     subst (IsRelayed setup earlier tuple channel) f.is (relayed_by setup earlier tuple channel f.a f.c f.p f.holds)
 
 pub lasting_flow : (setup : Setup) (since earlier : List Timed) (tuple : FiveTuple) (channel user : ℕ) (flow : Flow) → flow_of (run setup earlier) tuple channel ≡ Some flow
-    → AllByRecursion (λ a. a.number ≡ flow.number → a.user ≡ user) (run setup earlier).relays → IsLeft setup tuple user flow.number since earlier → (run setup (since ++ earlier)).clock < flow.until
+    → AllByRecursion (λ a. a.number ≡ flow.number → a.user ≡ user) (run setup earlier).relays → IsLeft setup tuple user flow.number since earlier → (run setup (since ++ earlier)).clock < flow.expires_at
     → (flow_of (run setup (since ++ earlier)) tuple channel ≡ Some flow) × IsRelayed setup (since ++ earlier) tuple channel flow
 lasting_flow setup since earlier tuple channel user flow e users left soon =
     let state = run setup earlier in
     let f = flow_is tuple channel flow state e in
     let number_is : f.a.number ≡ flow.number = ap (λ (x : Flow). x.number) f.is in
-    let until_is : min f.a.until (min f.c.until f.p.until) ≡ flow.until = ap (λ (x : Flow). x.until) f.is in
+    let until_is : min f.a.expires_at (min f.c.expires_at f.p.expires_at) ≡ flow.expires_at = ap (λ (x : Flow). x.expires_at) f.is in
     let user_is = found_is (λ b. b.number ≡ flow.number → b.user ≡ user) (has_channel state.clock tuple channel) state.relays f.a f.holds.relay users number_is in
     let h = stay setup tuple channel user flow.number f.a f.c f.p since earlier user_is number_is left (omega (arith, soon, until_is)) f.holds in
     let again : flow_of (run setup (since ++ earlier)) tuple channel ≡ Some flow = flow_held tuple channel f.a f.c f.p (run setup (since ++ earlier)) h ∙ ap (λ (x : Flow). Some x) f.is in
@@ -345,32 +345,32 @@ lasting_flow setup since earlier tuple channel user flow e users left soon =
 found_among : {X : Type 0} (P : X → Type 0) (test : X → Bool) (xs : List X) (a : X) → find test xs ≡ Some a → P a → SomeOf P xs
 found_among P test xs a is here = some_map (λ x. x ≡ a) P (λ x same. subst P (sym same) here) xs (found_some test xs a is)
 
-least_by : (setup : Setup) (earlier : List Timed) (tuple : FiveTuple) (channel : ℕ) (a : Relay) (c : Channel) (p : Permission) → Holds tuple channel a c p (run setup earlier) → ((run setup earlier).clock < (flow_with a c p).until) × IsFirstEnd tuple channel (flow_with a c p) (run setup earlier)
+least_by : (setup : Setup) (earlier : List Timed) (tuple : FiveTuple) (channel : ℕ) (a : Relay) (c : Channel) (p : Permission) → Holds tuple channel a c p (run setup earlier) → ((run setup earlier).clock < (flow_with a c p).expires_at) × IsFirstEnd tuple channel (flow_with a c p) (run setup earlier)
 least_by setup earlier tuple channel a c p h =
     let state = run setup earlier in
     let flow = flow_with a c p in
     let his : a.tuple ≡ tuple = sym (tuple_same tuple a.tuple (and_parts (is_of tuple a) (list_any (is_channel state.clock channel) a.channels) (find_true (has_channel state.clock tuple channel) state.relays a h.relay)).0) in
-    let number : c.number ≡ channel = eqb-true c.number channel (and_parts (c.number == channel) (nat_lt state.clock c.until) (find_true (is_channel state.clock channel) a.channels c h.bound)).0 in
-    let ip : p.ip ≡ c.peer.ip = sym (ip_same c.peer.ip p.ip (and_parts (is_ip c.peer.ip p.ip) (nat_lt state.clock p.until) (find_true (is_permission state.clock c.peer.ip) a.permissions p h.permitted)).0) in (
+    let number : c.number ≡ channel = eqb-true c.number channel (and_parts (c.number == channel) (nat_lt state.clock c.expires_at) (find_true (is_channel state.clock channel) a.channels c h.bound)).0 in
+    let ip : p.ip ≡ c.peer.ip = sym (ip_same c.peer.ip p.ip (and_parts (is_ip c.peer.ip p.ip) (nat_lt state.clock p.expires_at) (find_true (is_permission state.clock c.peer.ip) a.permissions p h.permitted)).0) in (
       begun_yet setup earlier tuple channel a c p h,
-      found_among (λ b. (b.tuple ≡ tuple) × (b.number ≡ flow.number) × SomeOf (λ d. (d.number ≡ channel) × (d.peer ≡ flow.peer) × SomeOf (λ q. (q.ip ≡ flow.peer.ip) × (flow.until ≡ min b.until (min d.until q.until))) b.permissions) b.channels) (has_channel state.clock tuple channel) state.relays a h.relay (
+      found_among (λ b. (b.tuple ≡ tuple) × (b.number ≡ flow.number) × SomeOf (λ d. (d.number ≡ channel) × (d.peer ≡ flow.peer) × SomeOf (λ q. (q.ip ≡ flow.peer.ip) × (flow.expires_at ≡ min b.expires_at (min d.expires_at q.expires_at))) b.permissions) b.channels) (has_channel state.clock tuple channel) state.relays a h.relay (
         his,
         refl,
-        found_among (λ d. (d.number ≡ channel) × (d.peer ≡ flow.peer) × SomeOf (λ q. (q.ip ≡ flow.peer.ip) × (flow.until ≡ min a.until (min d.until q.until))) a.permissions) (is_channel state.clock channel) a.channels c h.bound
-            (number, refl, found_among (λ q. (q.ip ≡ flow.peer.ip) × (flow.until ≡ min a.until (min c.until q.until))) (is_permission state.clock c.peer.ip) a.permissions p h.permitted (ip, refl)),
+        found_among (λ d. (d.number ≡ channel) × (d.peer ≡ flow.peer) × SomeOf (λ q. (q.ip ≡ flow.peer.ip) × (flow.expires_at ≡ min a.expires_at (min d.expires_at q.expires_at))) a.permissions) (is_channel state.clock channel) a.channels c h.bound
+            (number, refl, found_among (λ q. (q.ip ≡ flow.peer.ip) × (flow.expires_at ≡ min a.expires_at (min c.expires_at q.expires_at))) (is_permission state.clock c.peer.ip) a.permissions p h.permitted (ip, refl)),
       ),
     )
 
-pub least_end : (setup : Setup) (earlier : List Timed) (tuple : FiveTuple) (channel : ℕ) (flow : Flow) → flow_of (run setup earlier) tuple channel ≡ Some flow → ((run setup earlier).clock < flow.until) × IsFirstEnd tuple channel flow (run setup earlier)
+pub least_end : (setup : Setup) (earlier : List Timed) (tuple : FiveTuple) (channel : ℕ) (flow : Flow) → flow_of (run setup earlier) tuple channel ≡ Some flow → ((run setup earlier).clock < flow.expires_at) × IsFirstEnd tuple channel flow (run setup earlier)
 least_end setup earlier tuple channel flow e =
     let f = flow_is tuple channel flow (run setup earlier) e in
-    subst (λ (x : Flow). ((run setup earlier).clock < x.until) × IsFirstEnd tuple channel x (run setup earlier)) f.is (least_by setup earlier tuple channel f.a f.c f.p f.holds)
+    subst (λ (x : Flow). ((run setup earlier).clock < x.expires_at) × IsFirstEnd tuple channel x (run setup earlier)) f.is (least_by setup earlier tuple channel f.a f.c f.p f.holds)
 
 -- ---- If both directions are relayed, there is a flow
 
 pub both_ways : (setup : Setup) (earlier : List Timed) (tuple : FiveTuple) (channel number : ℕ) (peer : Endpoint) (now : ℕ) (rules : Rules) (bytes other : List ℕ)
     → output_of setup earlier now rules (sends_on tuple channel bytes) ≡ to_peer number peer false bytes → output_of setup earlier now rules (arrives number peer other) ≡ to_client_on tuple channel other
-    → (flow : Flow) × (flow_of (run setup earlier) tuple channel ≡ Some flow) × (flow.number ≡ number) × (flow.peer ≡ peer) × (now < flow.until)
+    → (flow : Flow) × (flow_of (run setup earlier) tuple channel ≡ Some flow) × (flow.number ≡ number) × (flow.peer ≡ peer) × (now < flow.expires_at)
 both_ways setup earlier tuple channel number peer now rules bytes other out back =
     let state = run setup earlier in
     let m = max state.clock now in
@@ -402,9 +402,9 @@ both_ways setup earlier tuple channel number peer now rules bytes other out back
     let unique = found_is IsUnique (has_channel state.clock tuple channel) state.relays a relay (run_unique setup earlier) in
     let bound = found_too (is_channel m channel) (is_channel state.clock channel) a.channels c two.1 (channel_sooner state.clock m channel le c (find_true (is_channel m channel) a.channels c two.1)) (unique.number state.clock channel) in
     let p = the_one (is_permission state.clock c.peer.ip) (is_permission m c.peer.ip) a.permissions (permission_sooner state.clock m c.peer le) (unique.permission state.clock c.peer.ip) permitted in
-    let a_lasts = ltb-true m a.until lives in
-    let c_lasts = ltb-true m c.until (and_parts (c.number == channel) (nat_lt m c.until) (find_true (is_channel m channel) a.channels c two.1)).1 in
-    let p_lasts = ltb-true m p.0.until (and_parts (is_ip c.peer.ip p.0.ip) (nat_lt m p.0.until) p.2).1 in
+    let a_lasts = ltb-true m a.expires_at lives in
+    let c_lasts = ltb-true m c.expires_at (and_parts (c.number == channel) (nat_lt m c.expires_at) (find_true (is_channel m channel) a.channels c two.1)).1 in
+    let p_lasts = ltb-true m p.0.expires_at (and_parts (is_ip c.peer.ip p.0.ip) (nat_lt m p.0.expires_at) p.2).1 in
     (flow_with a c p.0, flow_held tuple channel a c p.0 state (record { relay = relay; bound = bound; permitted = p.1 }), number_is, peer_is, omega (arith, a_lasts, c_lasts, p_lasts))
 
 -- ---- A socket and a peer are of one flow
@@ -412,13 +412,13 @@ both_ways setup earlier tuple channel number peer now rules bytes other out back
 abbrev all_allowed : Rules
 all_allowed = record { allows_ip = λ ip. true; allows_port = λ peer. true }
 
-pub one_flow : (setup : Setup) (earlier : List Timed) (tuple other : FiveTuple) (channel second : ℕ) (flow : Flow) (until : ℕ) → flow_of (run setup earlier) tuple channel ≡ Some flow → flow_of (run setup earlier) other second ≡ Some (record flow { until = until }) → (tuple ≡ other) × (channel ≡ second)
-one_flow setup earlier tuple other channel second flow until is too =
+pub one_flow : (setup : Setup) (earlier : List Timed) (tuple other : FiveTuple) (channel second : ℕ) (flow : Flow) (expires_at : ℕ) → flow_of (run setup earlier) tuple channel ≡ Some flow → flow_of (run setup earlier) other second ≡ Some (record flow { expires_at = expires_at }) → (tuple ≡ other) × (channel ≡ second)
+one_flow setup earlier tuple other channel second flow expires_at is too =
     let one = least_end setup earlier tuple channel flow is in
-    let two = least_end setup earlier other second (record flow { until = until }) too in
+    let two = least_end setup earlier other second (record flow { expires_at = expires_at }) too in
     let now = (run setup earlier).clock in
     let here = (relayed_now setup earlier tuple channel flow is).back now all_allowed [] one.0 refl in
-    let there = (relayed_now setup earlier other second (record flow { until = until }) too).back now all_allowed [] two.0 refl in
+    let there = (relayed_now setup earlier other second (record flow { expires_at = expires_at }) too).back now all_allowed [] two.0 refl in
     let same : to_client_on tuple channel [] ≡ to_client_on other second [] = sym here ∙ there in
     (cc, cc)
 
@@ -430,14 +430,14 @@ not_before m n never = omega (arith, never)
 same_until : (m n : ℕ) → m ≤ n → n ≤ m → m ≡ n
 same_until m n one other = omega (arith, one, other)
 
-same_flow : (f g : Flow) → f.number ≡ g.number → f.peer ≡ g.peer → f.until ≡ g.until → f ≡ g
+same_flow : (f g : Flow) → f.number ≡ g.number → f.peer ≡ g.peer → f.expires_at ≡ g.expires_at → f ≡ g
 same_flow f g number_is peer_is until_is =
-    ap (λ (k : ℕ). record { number = k; peer = f.peer; until = f.until }) number_is
-    ∙ (ap (λ (e : Endpoint). record { number = g.number; peer = e; until = f.until }) peer_is
-    ∙ ap (λ (k : ℕ). record { number = g.number; peer = g.peer; until = k }) until_is)
+    ap (λ (k : ℕ). record { number = k; peer = f.peer; expires_at = f.expires_at }) number_is
+    ∙ (ap (λ (e : Endpoint). record { number = g.number; peer = e; expires_at = f.expires_at }) peer_is
+    ∙ ap (λ (k : ℕ). record { number = g.number; peer = g.peer; expires_at = k }) until_is)
 
-pub determined : (setup : Setup) (earlier : List Timed) (tuple : FiveTuple) (channel : ℕ) (flow : Flow) → (run setup earlier).clock < flow.until → IsRelayed setup earlier tuple channel flow
-    → ((now : ℕ) (rules : Rules) (bytes other : List ℕ) → output_of setup earlier now rules (sends_on tuple channel bytes) ≡ to_peer flow.number flow.peer false bytes → output_of setup earlier now rules (arrives flow.number flow.peer other) ≡ to_client_on tuple channel other → now < flow.until)
+pub determined : (setup : Setup) (earlier : List Timed) (tuple : FiveTuple) (channel : ℕ) (flow : Flow) → (run setup earlier).clock < flow.expires_at → IsRelayed setup earlier tuple channel flow
+    → ((now : ℕ) (rules : Rules) (bytes other : List ℕ) → output_of setup earlier now rules (sends_on tuple channel bytes) ≡ to_peer flow.number flow.peer false bytes → output_of setup earlier now rules (arrives flow.number flow.peer other) ≡ to_client_on tuple channel other → now < flow.expires_at)
     → flow_of (run setup earlier) tuple channel ≡ Some flow
 determined setup earlier tuple channel flow soon relayed until_then =
     let clock = (run setup earlier).clock in
@@ -445,15 +445,15 @@ determined setup earlier tuple channel flow soon relayed until_then =
     let f = first.0 in
     let is = first.1 in
     let mine = relayed_now setup earlier tuple channel f is in
-    let later_not = not_before flow.until f.until (λ less.
-    let out = subst (λ (e : Endpoint). output_of setup earlier flow.until all_allowed (sends_on tuple channel []) ≡ to_peer flow.number e false []) first.3 (subst (λ (k : ℕ). output_of setup earlier flow.until all_allowed (sends_on tuple channel []) ≡ to_peer k f.peer false []) first.2 (mine.out flow.until all_allowed [] less refl)) in
-    let back = subst (λ (e : Endpoint). output_of setup earlier flow.until all_allowed (arrives flow.number e []) ≡ to_client_on tuple channel []) first.3 (subst (λ (k : ℕ). output_of setup earlier flow.until all_allowed (arrives k f.peer []) ≡ to_client_on tuple channel []) first.2 (mine.back flow.until all_allowed [] less refl)) in
-    let no = until_then flow.until all_allowed [] [] out back in omega (arith, no)) in
-    let sooner_not = not_before f.until flow.until (λ less.
-    let second = both_ways setup earlier tuple channel flow.number flow.peer f.until all_allowed [] [] (relayed.out f.until all_allowed [] less refl) (relayed.back f.until all_allowed [] less refl) in
+    let later_not = not_before flow.expires_at f.expires_at (λ less.
+    let out = subst (λ (e : Endpoint). output_of setup earlier flow.expires_at all_allowed (sends_on tuple channel []) ≡ to_peer flow.number e false []) first.3 (subst (λ (k : ℕ). output_of setup earlier flow.expires_at all_allowed (sends_on tuple channel []) ≡ to_peer k f.peer false []) first.2 (mine.out flow.expires_at all_allowed [] less refl)) in
+    let back = subst (λ (e : Endpoint). output_of setup earlier flow.expires_at all_allowed (arrives flow.number e []) ≡ to_client_on tuple channel []) first.3 (subst (λ (k : ℕ). output_of setup earlier flow.expires_at all_allowed (arrives k f.peer []) ≡ to_client_on tuple channel []) first.2 (mine.back flow.expires_at all_allowed [] less refl)) in
+    let no = until_then flow.expires_at all_allowed [] [] out back in omega (arith, no)) in
+    let sooner_not = not_before f.expires_at flow.expires_at (λ less.
+    let second = both_ways setup earlier tuple channel flow.number flow.peer f.expires_at all_allowed [] [] (relayed.out f.expires_at all_allowed [] less refl) (relayed.back f.expires_at all_allowed [] less refl) in
     let e : Some second.0 ≡ Some f = sym second.1 ∙ is in
     let same : second.0 ≡ f = cc in
-    let until_is : second.0.until ≡ f.until = ap (λ (x : Flow). x.until) same in
+    let until_is : second.0.expires_at ≡ f.expires_at = ap (λ (x : Flow). x.expires_at) same in
     let l = second.4 in omega (arith, until_is, l)) in
-    let until_is : f.until ≡ flow.until = same_until f.until flow.until later_not sooner_not in
+    let until_is : f.expires_at ≡ flow.expires_at = same_until f.expires_at flow.expires_at later_not sooner_not in
     subst (λ (x : Flow). flow_of (run setup earlier) tuple channel ≡ Some x) (same_flow f flow first.2 first.3 until_is) is

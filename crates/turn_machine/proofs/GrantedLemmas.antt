@@ -15,7 +15,7 @@ use Rattle.turn_machine.specs.Opening.{has_of}
 use Rattle.turn_machine.specs.Rows.{row, has_wanted, is_other_permission, with_permissions, peers_of, permissions_after, lacks_permissions, have_families, permit_rows, is_other_channel, with_channel, clashes, is_bound_otherwise, is_channel_number, lacks_channels, bind_rows, with_permission_for}
 use Rattle.turn_machine.specs.Steps.{Step, changed, closing, is_wanted, lasting, permitting, binding, keeping, refreshes, serves}
 use Rattle.turn_machine.specs.Granting.{IsClash, HasOf, IsOwn, IsCovered, CanPermit, CanBind, relay_of, OthersStay, IsPermittedFrom, IsFor, IsRefreshed, ArePermitted, IsBound}
-use Rattle.turn_machine.proofs.AddressesLemmas.{ip_same, ip_is_itself, tuple_same}
+use Rattle.stun_endpoints.proofs.AddressesLemmas.{ip_same, ip_is_itself, tuple_same}
 use Rattle.turn_machine.proofs.ListsLemmas.{each_map, each_both, find_true, none_any, some_any, each_all, left_false, right_false}
 use Rattle.turn_machine.proofs.FaultLemmas.{for_granted}
 use Rattle.turn_machine.proofs.RowsLemmas.{no_clash_is}
@@ -158,7 +158,7 @@ refreshing tuple user granted wanted state own =
       output = refl;
       lasts = λ _ family is a of.
           after_change tuple user family change state a (lasting_same (λ b. b.tuple) wanted (state.clock + seconds granted) (λ _. refl)) (lasting_same (λ b. b.family) wanted (state.clock + seconds granted) (λ _. refl)) own of
-          ∙ ap (λ (b : Relay). Some b) (cond-true (is_wanted wanted a) (record a { until = state.clock + seconds granted }) a (wanted_of wanted family a is (family_is tuple family state a of)));
+          ∙ ap (λ (b : Relay). Some b) (cond-true (is_wanted wanted a) (record a { expires_at = state.clock + seconds granted }) a (wanted_of wanted family a is (family_is tuple family state a of)));
       ends = λ nought. absurd (false≢true (sym some ∙ eq-eqb granted 0 nought));
       others = others_stay tuple user change state (lasting_same (λ b. b.tuple) wanted (state.clock + seconds granted) (λ _. refl)) (lasting_same (λ b. b.family) wanted (state.clock + seconds granted) (λ _. refl));
     })
@@ -180,10 +180,10 @@ none_left now m ip new (p ∷ ps) same =
     let more = none_left now m ip new ps same in
     cond_both (is_other_permission now new p) (p ∷ filter (is_other_permission now new) ps) (filter (is_other_permission now new) ps) (λ (l : List Permission). list_any (is_permission m ip) l ≡ false)
     (λ kept.
-    let off = (and_parts (not (is_ip new p.ip)) (nat_lt now p.until) kept).0 in
+    let off = (and_parts (not (is_ip new p.ip)) (nat_lt now p.expires_at) kept).0 in
     let isnt : is_ip ip p.ip ≡ false = not_true (is_ip ip p.ip) (λ is.
     let at : is_ip new p.ip ≡ true = subst (λ (i : Ip). is_ip i p.ip ≡ true) (ip_same ip new same) is in false≢true (sym (ap not at) ∙ off)) in
-    ap (λ (b : Bool). b || list_any (is_permission m ip) (filter (is_other_permission now new) ps)) (left_false (is_ip ip p.ip) (nat_lt m p.until) isnt) ∙ more)
+    ap (λ (b : Bool). b || list_any (is_permission m ip) (filter (is_other_permission now new) ps)) (left_false (is_ip ip p.ip) (nat_lt m p.expires_at) isnt) ∙ more)
     (λ _. more)
 
 -- of another IP address, what hasn't expired stays
@@ -194,15 +194,15 @@ others_left now m ip new (p ∷ ps) le differ =
     cond_both (is_other_permission now new p) (p ∷ filter (is_other_permission now new) ps) (filter (is_other_permission now new) ps) (λ (l : List Permission). list_any (is_permission m ip) l ≡ list_any (is_permission m ip) (p ∷ ps))
     (λ _. ap (λ (b : Bool). is_permission m ip p || b) more)
     (λ dropped. more ∙ ap (λ (b : Bool). b || list_any (is_permission m ip) ps) (sym (not_true (is_permission m ip p) (λ is.
-    let both = and_parts (is_ip ip p.ip) (nat_lt m p.until) is in
-    let lasts = ltb-true m p.until both.1 in
+    let both = and_parts (is_ip ip p.ip) (nat_lt m p.expires_at) is in
+    let lasts = ltb-true m p.expires_at both.1 in
     let off : is_ip new p.ip ≡ false = not_true (is_ip new p.ip) (λ at. false≢true (sym differ ∙ subst (λ (i : Ip). is_ip ip i ≡ true) (sym (ip_same new p.ip at)) both.0)) in
-    false≢true (sym dropped ∙ and_from (not (is_ip new p.ip)) (nat_lt now p.until) (ap not off) (lt-ltb now p.until (omega (arith, le, lasts))))))))
+    false≢true (sym dropped ∙ and_from (not (is_ip new p.ip)) (nat_lt now p.expires_at) (ap not off) (lt-ltb now p.expires_at (omega (arith, le, lasts))))))))
 
-by_head : (same until rest : Bool) → (same ≡ true → rest ≡ false) → (same ≡ false → rest ≡ until) → ((same && until) || rest) ≡ until
+by_head : (same expires_at rest : Bool) → (same ≡ true → rest ≡ false) → (same ≡ false → rest ≡ expires_at) → ((same && expires_at) || rest) ≡ expires_at
 by_head true true rest off on = refl
 by_head true false rest off on = off refl
-by_head false until rest off on = on refl
+by_head false expires_at rest off on = on refl
 
 or_second : (p q : Bool) → p ≡ false → (p || q) ≡ true → q ≡ true
 or_second true q e any = absurd (false≢true (sym e))
@@ -321,7 +321,7 @@ not_among now m number [] = tt
 not_among now m number (c ∷ cs) =
     let more = not_among now m number cs in
     cond_both (is_other_channel now number c) (c ∷ filter (is_other_channel now number) cs) (filter (is_other_channel now number) cs) (AllByRecursion (λ d. is_channel m number d ≡ false))
-    (λ kept. (left_false (c.number == number) (nat_lt m c.until) (not_true (c.number == number) (λ same. false≢true (sym (ap not same) ∙ (and_parts (not (c.number == number)) (nat_lt now c.until) kept).0))), more))
+    (λ kept. (left_false (c.number == number) (nat_lt m c.expires_at) (not_true (c.number == number) (λ same. false≢true (sym (ap not same) ∙ (and_parts (not (c.number == number)) (nat_lt now c.expires_at) kept).0))), more))
     (λ _. more)
 
 pub bind_granted : (setup : Setup) (rules : Rules) (state : State) (tuple : FiveTuple) (user number : ℕ) (peer : Endpoint) → CanBind setup rules tuple user number peer state → IsBound setup tuple number peer state (serves setup rules tuple user (bind number peer) state)
@@ -338,7 +338,7 @@ bind_granted setup rules state tuple user number peer can =
     let is : relay_of tuple peer.ip.family (changed tuple user change state) ≡ Some (bound_after lifetime now number peer a) =
     after_change tuple user peer.ip.family change state a tuples families can.permits.own here.1
     ∙ ap (λ (b : Relay). Some b) (cond-true (peer.ip.family == a.family) (bound_after lifetime now number peer a) a same) in
-    let dont_fragment : Channel = record { number = number; peer = peer; until = now + seconds 600 } in
+    let dont_fragment : Channel = record { number = number; peer = peer; expires_at = now + seconds 600 } in
     subst (IsBound setup tuple number peer state)
     (sym (for_granted setup rules tuple user (bind number peer) state refl (own_none tuple user state (bind_rows setup rules state tuple user number peer) can.permits.own (bind_fits setup rules tuple user number peer state can))))
     (record {

@@ -13,7 +13,7 @@ use Rattle.turn_machine.specs.Opening.{opened, with_relay, has_of, can_open, ope
 use Rattle.turn_machine.specs.Rows.{row, has_any, is_of_another, has_of_another, own_rows, is_offered, is_ready, fault}
 use Rattle.turn_machine.specs.Steps.{keeping, serves}
 use Rattle.turn_machine.specs.Granting.{IsFree, IsOpened, IsOwn, IsFit, given_of}
-use Rattle.turn_machine.proofs.AddressesLemmas.{tuple_is_itself}
+use Rattle.stun_endpoints.proofs.AddressesLemmas.{tuple_is_itself}
 use Rattle.turn_machine.proofs.ListsLemmas.{each_map, none_any, some_any, left_false, right_false, count_cons}
 use Rattle.turn_machine.proofs.FaultLemmas.{for_granted}
 
@@ -26,11 +26,11 @@ filter_none test (x ∷ xs) each = cond-false (test x) (x ∷ filter test xs) (f
 free_none : (tuple : FiveTuple) (family : ℕ) (all : List Relay) → AllByRecursion (λ a. is_of tuple a ≡ false) all → list_any (is_for tuple family) all ≡ false
 free_none tuple family all free = none_any (is_for tuple family) all (each_map (λ a. is_of tuple a ≡ false) (λ a. is_for tuple family a ≡ false) (λ a is. left_false (is_of tuple a) (a.family == family) is) all free)
 
-pub free_again : (tuple : FiveTuple) (user id : ℕ) (all : List Relay) → AllByRecursion (λ a. is_of tuple a ≡ false) all → list_any (λ a. is_owned tuple user a && (a.opened_by == id)) all ≡ false
+pub free_again : (tuple : FiveTuple) (user id : ℕ) (all : List Relay) → AllByRecursion (λ a. is_of tuple a ≡ false) all → list_any (λ a. is_owned tuple user a && (a.transaction_id == id)) all ≡ false
 free_again tuple user id all free =
-    none_any (λ a. is_owned tuple user a && (a.opened_by == id)) all
-    (each_map (λ a. is_of tuple a ≡ false) (λ a. (is_owned tuple user a && (a.opened_by == id)) ≡ false)
-    (λ a is. left_false (is_owned tuple user a) (a.opened_by == id) (left_false (is_of tuple a) (is_users user a) is)) all free)
+    none_any (λ a. is_owned tuple user a && (a.transaction_id == id)) all
+    (each_map (λ a. is_of tuple a ≡ false) (λ a. (is_owned tuple user a && (a.transaction_id == id)) ≡ false)
+    (λ a is. left_false (is_owned tuple user a) (a.transaction_id == id) (left_false (is_of tuple a) (is_users user a) is)) all free)
 
 pub allocate_fits : (used family quota room ready : Bool) → used ≡ false → family ≡ true → quota ≡ true → room ≡ true → ready ≡ true → row used 437 (row (not family) 440 (row (not quota) 486 (row (not room) 508 (row (not ready) 508 None)))) ≡ None
 allocate_fits false true true true true a b c d e = refl
@@ -44,27 +44,27 @@ own_tuple : (tuple : FiveTuple) (family : ℕ) → (is_tuple tuple tuple && (fam
 own_tuple tuple family = and_from (is_tuple tuple tuple) (family == family) (tuple_is_itself tuple) (eq-eqb family family refl)
 
 -- a want that can be met is met
-met : (setup : Setup) (tuple : FiveTuple) (user id until : ℕ) (want : Want) (offer : Offer) (state : State) → setup.has_family want.family ≡ true → count_by (is_users user) state.relays < setup.most_of_user → length state.relays < setup.most_relays
-    → has_of tuple want.family state ≡ false → want.ready ≡ Some offer → opens_one setup tuple user id until want state ≡ with_relay tuple user id until want.family state offer
-met setup tuple user id until want offer state family quota room free ready =
-    cond-true (can_open setup tuple user want state) (option_map_or (with_relay tuple user id until want.family state) want.ready state) state
+met : (setup : Setup) (tuple : FiveTuple) (user id expires_at : ℕ) (want : Want) (offer : Offer) (state : State) → setup.has_family want.family ≡ true → count_by (is_users user) state.relays < setup.most_of_user → length state.relays < setup.most_relays
+    → has_of tuple want.family state ≡ false → want.ready ≡ Some offer → opens_one setup tuple user id expires_at want state ≡ with_relay tuple user id expires_at want.family state offer
+met setup tuple user id expires_at want offer state family quota room free ready =
+    cond-true (can_open setup tuple user want state) (option_map_or (with_relay tuple user id expires_at want.family state) want.ready state) state
     (and_from (setup.has_family want.family) (has_quota setup user state && (has_room setup state && not (has_of tuple want.family state))) family
     (and_from (has_quota setup user state) (has_room setup state && not (has_of tuple want.family state)) (lt-ltb (count_by (is_users user) state.relays) setup.most_of_user quota)
     (and_from (has_room setup state) (not (has_of tuple want.family state)) (lt-ltb (length state.relays) setup.most_relays room) (ap not free))))
-    ∙ ap (λ (o : Option Offer). option_map_or (with_relay tuple user id until want.family state) o state) ready
+    ∙ ap (λ (o : Option Offer). option_map_or (with_relay tuple user id expires_at want.family state) o state) ready
 
 -- a want that isn't offered, or has no socket, opens nothing
-pub unmet : (setup : Setup) (tuple : FiveTuple) (user id until : ℕ) (want : Want) (state : State) → (setup.has_family want.family ≡ false) ⊎ (want.ready ≡ None) → opens_one setup tuple user id until want state ≡ state
-unmet setup tuple user id until want state (inl family) =
-    cond-false (can_open setup tuple user want state) (option_map_or (with_relay tuple user id until want.family state) want.ready state) state
+pub unmet : (setup : Setup) (tuple : FiveTuple) (user id expires_at : ℕ) (want : Want) (state : State) → (setup.has_family want.family ≡ false) ⊎ (want.ready ≡ None) → opens_one setup tuple user id expires_at want state ≡ state
+unmet setup tuple user id expires_at want state (inl family) =
+    cond-false (can_open setup tuple user want state) (option_map_or (with_relay tuple user id expires_at want.family state) want.ready state) state
     (left_false (setup.has_family want.family) (has_quota setup user state && (has_room setup state && not (has_of tuple want.family state))) family)
-unmet setup tuple user id until want state (inr ready) =
-    cond_both (can_open setup tuple user want state) (option_map_or (with_relay tuple user id until want.family state) want.ready state) state (λ s. s ≡ state)
-    (λ _. ap (λ (o : Option Offer). option_map_or (with_relay tuple user id until want.family state) o state) ready) (λ _. refl)
+unmet setup tuple user id expires_at want state (inr ready) =
+    cond_both (can_open setup tuple user want state) (option_map_or (with_relay tuple user id expires_at want.family state) want.ready state) state (λ s. s ≡ state)
+    (λ _. ap (λ (o : Option Offer). option_map_or (with_relay tuple user id expires_at want.family state) o state) ready) (λ _. refl)
 
 -- a want beyond the quota or the room opens nothing
-beyond : (setup : Setup) (tuple : FiveTuple) (user id until : ℕ) (want : Want) (state : State) → (setup.most_of_user ≤ count_by (is_users user) state.relays) ⊎ (setup.most_relays ≤ length state.relays) → opens_one setup tuple user id until want state ≡ state
-beyond setup tuple user id until want state full =
+beyond : (setup : Setup) (tuple : FiveTuple) (user id expires_at : ℕ) (want : Want) (state : State) → (setup.most_of_user ≤ count_by (is_users user) state.relays) ⊎ (setup.most_relays ≤ length state.relays) → opens_one setup tuple user id expires_at want state ≡ state
+beyond setup tuple user id expires_at want state full =
     let quota = has_quota setup user state in
     let room = has_room setup state in
     let free = not (has_of tuple want.family state) in
@@ -72,7 +72,7 @@ beyond setup tuple user id until want state full =
       | inl most ↦ left_false quota (room && free) (le-ltb (count_by (is_users user) state.relays) setup.most_of_user most)
       | inr most ↦ right_false quota (room && free) (left_false room free (le-ltb (length state.relays) setup.most_relays most))
     ] in
-    cond-false (can_open setup tuple user want state) (option_map_or (with_relay tuple user id until want.family state) want.ready state) state (right_false (setup.has_family want.family) (quota && (room && free)) closed)
+    cond-false (can_open setup tuple user want state) (option_map_or (with_relay tuple user id expires_at want.family state) want.ready state) state (right_false (setup.has_family want.family) (quota && (room && free)) closed)
 
 is_ready_of : (setup : Setup) (tuple : FiveTuple) (user : ℕ) (want : Want) (offer : Offer) (state : State) → IsFit setup tuple user want offer state → is_ready setup want ≡ true
 is_ready_of setup tuple user want offer state fit = and_from (setup.has_family want.family) (is_some want.ready) fit.offered (ap (λ (o : Option Offer). is_some o) fit.ready)
@@ -139,97 +139,97 @@ grants setup rules tuple user id lifetime wants state after given missing free n
     ∙ (ap (λ (g : List Given). keeping after (answers tuple (allocated g granted (missing_to setup tuple wants after)))) gives
     ∙ ap (λ (m : List Missing). keeping after (answers tuple (allocated given granted m))) misses))
 
-first_met : (setup : Setup) (tuple : FiveTuple) (user id until : ℕ) (want : Want) (offer : Offer) (state : State) → IsFit setup tuple user want offer state → opens_one setup tuple user id until want state ≡ with_relay tuple user id until want.family state offer
-first_met setup tuple user id until want offer state fit = met setup tuple user id until want offer state fit.offered fit.quota fit.room (free_none tuple want.family state.relays fit.free) fit.ready
+first_met : (setup : Setup) (tuple : FiveTuple) (user id expires_at : ℕ) (want : Want) (offer : Offer) (state : State) → IsFit setup tuple user want offer state → opens_one setup tuple user id expires_at want state ≡ with_relay tuple user id expires_at want.family state offer
+first_met setup tuple user id expires_at want offer state fit = met setup tuple user id expires_at want offer state fit.offered fit.quota fit.room (free_none tuple want.family state.relays fit.free) fit.ready
 
-has_first : (tuple : FiveTuple) (user id until : ℕ) (family : ℕ) (state : State) (offer : Offer) → has_of tuple family (with_relay tuple user id until family state offer) ≡ true
-has_first tuple user id until family state offer = or_left (is_for tuple family (opened tuple user id until family state offer)) (list_any (is_for tuple family) state.relays) (own_tuple tuple family)
+has_first : (tuple : FiveTuple) (user id expires_at : ℕ) (family : ℕ) (state : State) (offer : Offer) → has_of tuple family (with_relay tuple user id expires_at family state offer) ≡ true
+has_first tuple user id expires_at family state offer = or_left (is_for tuple family (opened tuple user id expires_at family state offer)) (list_any (is_for tuple family) state.relays) (own_tuple tuple family)
 
 pub one_granted : (setup : Setup) (rules : Rules) (state : State) (tuple : FiveTuple) (user id : ℕ) (lifetime : Option ℕ) (want : Want) (offer : Offer) → IsFit setup tuple user want offer state
     → let granted = granted_for lifetime setup.greatest_lifetime in let a = opened tuple user id (state.clock + seconds granted) want.family state offer in
     serves setup rules tuple user (allocate id lifetime (want ∷ [])) state ≡ keeping (with_relay tuple user id (state.clock + seconds granted) want.family state offer) (answers tuple (allocated (given_of a ∷ []) granted []))
 one_granted setup rules state tuple user id lifetime want offer fit =
-    let until = state.clock + seconds (granted_for lifetime setup.greatest_lifetime) in
-    let after = with_relay tuple user id until want.family state offer in
-    grants setup rules tuple user id lifetime (want ∷ []) state after (given_of (opened tuple user id until want.family state offer) ∷ []) [] fit.free (first_fit setup rules tuple user id lifetime want [] offer state fit)
-    (first_met setup tuple user id until want offer state fit)
-    (given_one tuple (opened tuple user id until want.family state offer) state.relays (tuple_is_itself tuple) fit.free)
-    (nothing_missed setup tuple after want [] (has_first tuple user id until want.family state offer))
+    let expires_at = state.clock + seconds (granted_for lifetime setup.greatest_lifetime) in
+    let after = with_relay tuple user id expires_at want.family state offer in
+    grants setup rules tuple user id lifetime (want ∷ []) state after (given_of (opened tuple user id expires_at want.family state offer) ∷ []) [] fit.free (first_fit setup rules tuple user id lifetime want [] offer state fit)
+    (first_met setup tuple user id expires_at want offer state fit)
+    (given_one tuple (opened tuple user id expires_at want.family state offer) state.relays (tuple_is_itself tuple) fit.free)
+    (nothing_missed setup tuple after want [] (has_first tuple user id expires_at want.family state offer))
 
 -- two families
-not_first : (tuple : FiveTuple) (user id until family other : ℕ) (state : State) (offer : Offer) → AllByRecursion (λ a. is_of tuple a ≡ false) state.relays → (family == other) ≡ false → has_of tuple other (with_relay tuple user id until family state offer) ≡ false
-not_first tuple user id until family other state offer free differ =
-    none_any (is_for tuple other) (opened tuple user id until family state offer ∷ state.relays)
+not_first : (tuple : FiveTuple) (user id expires_at family other : ℕ) (state : State) (offer : Offer) → AllByRecursion (λ a. is_of tuple a ≡ false) state.relays → (family == other) ≡ false → has_of tuple other (with_relay tuple user id expires_at family state offer) ≡ false
+not_first tuple user id expires_at family other state offer free differ =
+    none_any (is_for tuple other) (opened tuple user id expires_at family state offer ∷ state.relays)
     (right_false (is_tuple tuple tuple) (family == other) differ, each_map (λ a. is_of tuple a ≡ false) (λ a. is_for tuple other a ≡ false) (λ a is. left_false (is_of tuple a) (a.family == other) is) state.relays free)
 
 pub two_granted : (setup : Setup) (rules : Rules) (state : State) (tuple : FiveTuple) (user id : ℕ) (lifetime : Option ℕ) (want other : Want) (offer second : Offer) → IsFit setup tuple user want offer state
     → (want.family == other.family) ≡ false → setup.has_family other.family ≡ true → other.ready ≡ Some second → count_by (is_users user) state.relays + 1 < setup.most_of_user → length state.relays + 1 < setup.most_relays
-    → let granted = granted_for lifetime setup.greatest_lifetime in let until = state.clock + seconds granted in let one = with_relay tuple user id until want.family state offer in
+    → let granted = granted_for lifetime setup.greatest_lifetime in let expires_at = state.clock + seconds granted in let one = with_relay tuple user id expires_at want.family state offer in
     serves setup rules tuple user (allocate id lifetime (want ∷ other ∷ [])) state
-    ≡ keeping (with_relay tuple user id until other.family one second)
-    (answers tuple (allocated (given_of (opened tuple user id until other.family one second) ∷ given_of (opened tuple user id until want.family state offer) ∷ []) granted []))
+    ≡ keeping (with_relay tuple user id expires_at other.family one second)
+    (answers tuple (allocated (given_of (opened tuple user id expires_at other.family one second) ∷ given_of (opened tuple user id expires_at want.family state offer) ∷ []) granted []))
 two_granted setup rules state tuple user id lifetime want other offer second fit differ offered ready quota room =
-    let until = state.clock + seconds (granted_for lifetime setup.greatest_lifetime) in
-    let a = opened tuple user id until want.family state offer in
-    let one = with_relay tuple user id until want.family state offer in
-    let b = opened tuple user id until other.family one second in
-    let two = with_relay tuple user id until other.family one second in
+    let expires_at = state.clock + seconds (granted_for lifetime setup.greatest_lifetime) in
+    let a = opened tuple user id expires_at want.family state offer in
+    let one = with_relay tuple user id expires_at want.family state offer in
+    let b = opened tuple user id expires_at other.family one second in
+    let two = with_relay tuple user id expires_at other.family one second in
     let counted = count_cons (is_users user) a state.relays ∙ ap (λ (t : Bool). cond t 1 0 + count_by (is_users user) state.relays) (eq-eqb user user refl) in
     grants setup rules tuple user id lifetime (want ∷ other ∷ []) state two (given_of b ∷ given_of a ∷ []) [] fit.free (first_fit setup rules tuple user id lifetime want (other ∷ []) offer state fit)
-    (ap (λ (s : State). opens_one setup tuple user id until other s) (first_met setup tuple user id until want offer state fit)
-    ∙ met setup tuple user id until other second one offered (omega (arith, counted, quota)) (omega (arith, room)) (not_first tuple user id until want.family other.family state offer fit.free differ) ready)
+    (ap (λ (s : State). opens_one setup tuple user id expires_at other s) (first_met setup tuple user id expires_at want offer state fit)
+    ∙ met setup tuple user id expires_at other second one offered (omega (arith, counted, quota)) (omega (arith, room)) (not_first tuple user id expires_at want.family other.family state offer fit.free differ) ready)
     (given_two tuple b a state.relays (tuple_is_itself tuple) (tuple_is_itself tuple) fit.free)
-    (nothing_missed setup tuple two want (other ∷ []) (or_right (is_for tuple want.family b) (list_any (is_for tuple want.family) one.relays) (has_first tuple user id until want.family state offer))
-    ∙ nothing_missed setup tuple two other [] (has_first tuple user id until other.family one second))
+    (nothing_missed setup tuple two want (other ∷ []) (or_right (is_for tuple want.family b) (list_any (is_for tuple want.family) one.relays) (has_first tuple user id expires_at want.family state offer))
+    ∙ nothing_missed setup tuple two other [] (has_first tuple user id expires_at other.family one second))
 
 -- the second of two can't be met: the server doesn't support the family, the caller has no socket, or the
 -- first takes the last place of the quota or the room
 abbrev pub IsLeftOut : Setup → (user : ℕ) → Want → State → Type 0
 IsLeftOut setup user other state = (setup.has_family other.family ≡ false) ⊎ (other.ready ≡ None) ⊎ (setup.most_of_user ≤ count_by (is_users user) state.relays + 1) ⊎ (setup.most_relays ≤ length state.relays + 1)
 
-left_out : (setup : Setup) (tuple : FiveTuple) (user id until family : ℕ) (offer : Offer) (other : Want) (state : State) → IsLeftOut setup user other state → let one = with_relay tuple user id until family state offer in opens_one setup tuple user id until other one ≡ one
-left_out setup tuple user id until family offer other state lacks =
-    let one = with_relay tuple user id until family state offer in
-    let counted = count_cons (is_users user) (opened tuple user id until family state offer) state.relays ∙ ap (λ (t : Bool). cond t 1 0 + count_by (is_users user) state.relays) (eq-eqb user user refl) in
+left_out : (setup : Setup) (tuple : FiveTuple) (user id expires_at family : ℕ) (offer : Offer) (other : Want) (state : State) → IsLeftOut setup user other state → let one = with_relay tuple user id expires_at family state offer in opens_one setup tuple user id expires_at other one ≡ one
+left_out setup tuple user id expires_at family offer other state lacks =
+    let one = with_relay tuple user id expires_at family state offer in
+    let counted = count_cons (is_users user) (opened tuple user id expires_at family state offer) state.relays ∙ ap (λ (t : Bool). cond t 1 0 + count_by (is_users user) state.relays) (eq-eqb user user refl) in
     elim lacks [
-      | inl unsupported ↦ unmet setup tuple user id until other one (inl unsupported)
-      | inr (inl unready) ↦ unmet setup tuple user id until other one (inr unready)
-      | inr (inr (inl quota)) ↦ beyond setup tuple user id until other one (inl (omega (arith, counted, quota)))
-      | inr (inr (inr room)) ↦ beyond setup tuple user id until other one (inr (omega (arith, room)))
+      | inl unsupported ↦ unmet setup tuple user id expires_at other one (inl unsupported)
+      | inr (inl unready) ↦ unmet setup tuple user id expires_at other one (inr unready)
+      | inr (inr (inl quota)) ↦ beyond setup tuple user id expires_at other one (inl (omega (arith, counted, quota)))
+      | inr (inr (inr room)) ↦ beyond setup tuple user id expires_at other one (inr (omega (arith, room)))
     ]
 
 pub part_granted : (setup : Setup) (rules : Rules) (state : State) (tuple : FiveTuple) (user id : ℕ) (lifetime : Option ℕ) (want other : Want) (offer : Offer) → IsFit setup tuple user want offer state
     → (want.family == other.family) ≡ false → IsLeftOut setup user other state
-    → let granted = granted_for lifetime setup.greatest_lifetime in let until = state.clock + seconds granted in
+    → let granted = granted_for lifetime setup.greatest_lifetime in let expires_at = state.clock + seconds granted in
     serves setup rules tuple user (allocate id lifetime (want ∷ other ∷ [])) state
-    ≡ keeping (with_relay tuple user id until want.family state offer)
-    (answers tuple (allocated (given_of (opened tuple user id until want.family state offer) ∷ []) granted (record { family = other.family; code = cond (setup.has_family other.family) 508 440 } ∷ [])))
+    ≡ keeping (with_relay tuple user id expires_at want.family state offer)
+    (answers tuple (allocated (given_of (opened tuple user id expires_at want.family state offer) ∷ []) granted (record { family = other.family; code = cond (setup.has_family other.family) 508 440 } ∷ [])))
 part_granted setup rules state tuple user id lifetime want other offer fit differ lacks =
-    let until = state.clock + seconds (granted_for lifetime setup.greatest_lifetime) in
-    let a = opened tuple user id until want.family state offer in
-    let one = with_relay tuple user id until want.family state offer in
+    let expires_at = state.clock + seconds (granted_for lifetime setup.greatest_lifetime) in
+    let a = opened tuple user id expires_at want.family state offer in
+    let one = with_relay tuple user id expires_at want.family state offer in
     grants setup rules tuple user id lifetime (want ∷ other ∷ []) state one (given_of a ∷ []) (missed setup other ∷ []) fit.free (first_fit setup rules tuple user id lifetime want (other ∷ []) offer state fit)
-    (ap (λ (s : State). opens_one setup tuple user id until other s) (first_met setup tuple user id until want offer state fit) ∙ left_out setup tuple user id until want.family offer other state lacks)
+    (ap (λ (s : State). opens_one setup tuple user id expires_at other s) (first_met setup tuple user id expires_at want offer state fit) ∙ left_out setup tuple user id expires_at want.family offer other state lacks)
     (given_one tuple a state.relays (tuple_is_itself tuple) fit.free)
-    (nothing_missed setup tuple one want (other ∷ []) (has_first tuple user id until want.family state offer)
-    ∙ one_missed setup tuple one other [] (not_first tuple user id until want.family other.family state offer fit.free differ))
+    (nothing_missed setup tuple one want (other ∷ []) (has_first tuple user id expires_at want.family state offer)
+    ∙ one_missed setup tuple one other [] (not_first tuple user id expires_at want.family other.family state offer fit.free differ))
 
 -- the first of two can't be met, and the second is fit
 pub second_granted : (setup : Setup) (rules : Rules) (state : State) (tuple : FiveTuple) (user id : ℕ) (lifetime : Option ℕ) (want other : Want) (offer : Offer) → IsFit setup tuple user other offer state
     → (other.family == want.family) ≡ false → (setup.has_family want.family ≡ false) ⊎ (want.ready ≡ None)
-    → let granted = granted_for lifetime setup.greatest_lifetime in let until = state.clock + seconds granted in
+    → let granted = granted_for lifetime setup.greatest_lifetime in let expires_at = state.clock + seconds granted in
     serves setup rules tuple user (allocate id lifetime (want ∷ other ∷ [])) state
-    ≡ keeping (with_relay tuple user id until other.family state offer)
-    (answers tuple (allocated (given_of (opened tuple user id until other.family state offer) ∷ []) granted (record { family = want.family; code = cond (setup.has_family want.family) 508 440 } ∷ [])))
+    ≡ keeping (with_relay tuple user id expires_at other.family state offer)
+    (answers tuple (allocated (given_of (opened tuple user id expires_at other.family state offer) ∷ []) granted (record { family = want.family; code = cond (setup.has_family want.family) 508 440 } ∷ [])))
 second_granted setup rules state tuple user id lifetime want other offer fit differ lacks =
-    let until = state.clock + seconds (granted_for lifetime setup.greatest_lifetime) in
-    let a = opened tuple user id until other.family state offer in
-    let one = with_relay tuple user id until other.family state offer in
+    let expires_at = state.clock + seconds (granted_for lifetime setup.greatest_lifetime) in
+    let a = opened tuple user id expires_at other.family state offer in
+    let one = with_relay tuple user id expires_at other.family state offer in
     grants setup rules tuple user id lifetime (want ∷ other ∷ []) state one (given_of a ∷ []) (missed setup want ∷ []) fit.free (second_fit setup rules tuple user id lifetime want other offer state fit)
-    (ap (λ (s : State). opens_one setup tuple user id until other s) (unmet setup tuple user id until want state lacks) ∙ first_met setup tuple user id until other offer state fit)
+    (ap (λ (s : State). opens_one setup tuple user id expires_at other s) (unmet setup tuple user id expires_at want state lacks) ∙ first_met setup tuple user id expires_at other offer state fit)
     (given_one tuple a state.relays (tuple_is_itself tuple) fit.free)
-    (one_missed setup tuple one want (other ∷ []) (not_first tuple user id until other.family want.family state offer fit.free differ)
-    ∙ ap (λ (l : List Missing). missed setup want ∷ l) (nothing_missed setup tuple one other [] (has_first tuple user id until other.family state offer)))
+    (one_missed setup tuple one want (other ∷ []) (not_first tuple user id expires_at other.family want.family state offer fit.free differ)
+    ∙ ap (λ (l : List Missing). missed setup want ∷ l) (nothing_missed setup tuple one other [] (has_first tuple user id expires_at other.family state offer)))
 
 -- ---- An own allocation
 
@@ -261,7 +261,7 @@ pub refreshed_exactly : (wanted greatest : ℕ) → 0 < wanted → refreshed_for
 refreshed_exactly wanted greatest some = cond-false (wanted == 0) 0 (max 600 (min wanted greatest)) (not_zero wanted some)
 
 -- what is opened, in the words of the law
-pub opening_is : (tuple : FiveTuple) (user id until family : ℕ) (old : State) (offer : Offer) (new : State) → new ≡ with_relay tuple user id until family old offer → IsOpened tuple user id until family offer old new (opened tuple user id until family old offer)
-opening_is tuple user id until family old offer new is =
-    subst (λ (s : State). IsOpened tuple user id until family offer old s (opened tuple user id until family old offer)) (sym is)
+pub opening_is : (tuple : FiveTuple) (user id expires_at family : ℕ) (old : State) (offer : Offer) (new : State) → new ≡ with_relay tuple user id expires_at family old offer → IsOpened tuple user id expires_at family offer old new (opened tuple user id expires_at family old offer)
+opening_is tuple user id expires_at family old offer new is =
+    subst (λ (s : State). IsOpened tuple user id expires_at family offer old s (opened tuple user id expires_at family old offer)) (sym is)
     (record { relays = refl; clock = refl; whose = (refl, refl, refl); family_is = refl; address_is = refl; until_is = refl; empty = (refl, refl); number_is_new = (omega arith, omega arith) })

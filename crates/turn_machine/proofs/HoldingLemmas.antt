@@ -17,8 +17,8 @@ use Rattle.turn_machine.specs.Steps.{changed, lasting, permitting, binding}
 use Rattle.turn_machine.specs.Runs.{Timed, Happening, run}
 use Rattle.turn_machine.specs.Granting.{relay_of}
 use Rattle.turn_machine.specs.Warrants.{refreshed_to, is_ended, end_of, Permits, Binds, BindsTo, Renews}
-use Rattle.turn_machine.proofs.AddressesLemmas.{ip_same, tuple_same}
-use Rattle.turn_machine.proofs.ListsLemmas.{count_cons, count_map, count_filter}
+use Rattle.stun_endpoints.proofs.AddressesLemmas.{ip_same, tuple_same}
+use Rattle.turn_machine.proofs.ListsLemmas.{count_cons, count_none, count_map, count_filter}
 use Rattle.turn_machine.proofs.RowsLemmas.{can_parts}
 use Rattle.turn_machine.proofs.KeepingLemmas.{Keeps, Anyone, run_keeps}
 use Rattle.turn_machine.proofs.KeptLemmas.{his_same, lasting_same, binding_same}
@@ -36,12 +36,6 @@ single_changed tuple user change state tuples families single other family =
     (λ a. ap (λ (t : FiveTuple). is_tuple other t && ((cond (is_owned tuple user a) (change a) a).family == family)) (his_same (λ b. b.tuple) tuple user change tuples a)
     ∙ ap (λ (f : ℕ). is_of other a && (f == family)) (his_same (λ b. b.family) tuple user change families a)) state.relays)) (single other family)
 
-none_counted : (test : Relay → Bool) (all : List Relay) → list_any test all ≡ false → count_by test all ≡ 0
-none_counted test [] none = refl
-none_counted test (a ∷ all) none =
-    let parts = or_parts (test a) (list_any test all) none in
-    count_cons test a all ∙ (ap (λ (b : Bool). cond b 1 0 + count_by test all) parts.0 ∙ (let more = none_counted test all parts.1 in omega (arith, more)))
-
 one_or : (b : Bool) (n : ℕ) → (b ≡ true → n ≡ 0) → n ≤ 1 → cond b 1 0 + n ≤ 1
 one_or true n none le = let e = none refl in omega (arith, e)
 one_or false n none le = omega (arith, le)
@@ -49,8 +43,8 @@ one_or false n none le = omega (arith, le)
 pub single_kept : (setup : Setup) → Keeps setup Anyone IsSingle
 single_kept setup = record {
   time = λ now state single tuple family. let fewer = count_filter (is_for tuple family) (is_live (max state.clock now)) state.relays in let s = single tuple family in omega (arith, s, fewer);
-  opened = λ tuple user id until want offer state _ _ can single other family.
-      let a = opened tuple user id until want.family state offer in
+  opened = λ tuple user id expires_at want offer state _ _ can single other family.
+      let a = opened tuple user id expires_at want.family state offer in
       let none = (can_parts setup tuple user want state can).free in
       subst (λ (n : ℕ). n ≤ 1) (sym (count_cons (is_for other family) a state.relays))
       (one_or (is_for other family a) (count_by (is_for other family) state.relays)
@@ -58,11 +52,11 @@ single_kept setup = record {
       let both = and_parts (is_of other a) (a.family == family) is in
       let t = tuple_same other tuple both.0 in
       let f = eqb-true want.family family both.1 in
-      none_counted (is_for other family) state.relays
+      count_none (is_for other family) state.relays
       (subst (λ (x : FiveTuple). list_any (is_for x family) state.relays ≡ false) (sym t) (subst (λ (k : ℕ). list_any (is_for tuple k) state.relays ≡ false) f none)))
       (single other family));
   ended = λ test state single tuple family. let fewer = count_filter (is_for tuple family) (λ a. not (test a)) state.relays in let s = single tuple family in omega (arith, s, fewer);
-  lasted = λ tuple user family until state _ single. single_changed tuple user (lasting family until) state (lasting_same (λ b. b.tuple) family until (λ _. refl)) (lasting_same (λ b. b.family) family until (λ _. refl)) single;
+  lasted = λ tuple user family expires_at state _ single. single_changed tuple user (lasting family expires_at) state (lasting_same (λ b. b.tuple) family expires_at (λ _. refl)) (lasting_same (λ b. b.family) family expires_at (λ _. refl)) single;
   permitted = λ rules tuple user peers state _ single. single_changed tuple user (permitting state.clock peers) state (λ _. refl) (λ _. refl) single;
   bound = λ rules tuple user number peer state _ single. single_changed tuple user (binding (bound_for setup) state.clock number peer) state (binding_same (λ b. b.tuple) (bound_for setup) state.clock number peer (λ _. refl)) (binding_same (λ b. b.family) (bound_for setup) state.clock number peer (λ _. refl)) single;
 }
@@ -88,7 +82,7 @@ pub record OuterStep (setup : Setup) (tuple : FiveTuple) (user number first : �
   pub found : relay_of tuple dest.ip.family state ≡ Some a
   pub user_is : a.user ≡ user
   pub number_is : a.number ≡ number
-  pub ends : end_of tuple user dest.ip.family number first since ≤ a.until
+  pub ends : end_of tuple user dest.ip.family number first since ≤ a.expires_at
   pub permits : SomeOf (Permits tuple user dest.ip n) since → is_permitted n dest.ip a ≡ true
   pub soon : SomeOf (Permits tuple user dest.ip n) since → n < state.clock + seconds 300
   pub permits_long : setup.channel_permits ≡ true → IsLong tuple user dest.ip n since → is_permitted n dest.ip a ≡ true
@@ -125,7 +119,7 @@ held_on setup tuple user number first dest n h since state after g le same held 
       found = same ∙ held.found;
       user_is = held.user_is;
       number_is = held.number_is;
-      ends = subst (λ (m : ℕ). m ≤ held.a.until) (sym (end_same tuple user dest.ip.family number first h since g.calm g.lifetime)) held.ends;
+      ends = subst (λ (m : ℕ). m ≤ held.a.expires_at) (sym (end_same tuple user dest.ip.family number first h since g.calm g.lifetime)) held.ends;
       permits = λ some. held.permits (only_older (Permits tuple user dest.ip n) h since g.permits some);
       soon = λ some. let s = held.soon (only_older (Permits tuple user dest.ip n) h since g.permits some) in omega (arith, le, s);
       permits_long = λ on some. held.permits_long on (only_longer tuple user dest.ip n h since g.binds some);
@@ -152,7 +146,7 @@ pub held_at : (setup : Setup) (tuple : FiveTuple) (user number first : ℕ) (des
 held_at setup tuple user number first dest n since state now kept held =
     let ends = held.ends in record {
       a = held.a;
-      found = find_kept (is_for tuple dest.ip.family) (is_live (max state.clock now)) state.relays held.a held.found (lt-ltb (max state.clock now) held.a.until (omega (arith, kept, ends)));
+      found = find_kept (is_for tuple dest.ip.family) (is_live (max state.clock now)) state.relays held.a held.found (lt-ltb (max state.clock now) held.a.expires_at (omega (arith, kept, ends)));
       user_is = held.user_is;
       number_is = held.number_is;
       ends = held.ends;
@@ -214,12 +208,12 @@ clash_peer true false true a b c = absurd (false≢true (sym c))
 clash_peer false number peer a b c = absurd (false≢true a)
 clash_peer lives number false a b c = absurd (false≢true b)
 
-pub same_number : (c n number : ℕ) (peer : Endpoint) (d : Channel) → c ≤ n → clashes c number peer d ≡ false → nat_lt n d.until ≡ true → (d.number == number) ≡ true → is_endpoint d.peer peer ≡ true
+pub same_number : (c n number : ℕ) (peer : Endpoint) (d : Channel) → c ≤ n → clashes c number peer d ≡ false → nat_lt n d.expires_at ≡ true → (d.number == number) ≡ true → is_endpoint d.peer peer ≡ true
 same_number c n number peer d le free lives same =
-    let lasts = ltb-true n d.until lives in
-    clash_number (nat_lt c d.until) (d.number == number) (is_endpoint d.peer peer) (lt-ltb c d.until (omega (arith, le, lasts))) same free
+    let lasts = ltb-true n d.expires_at lives in
+    clash_number (nat_lt c d.expires_at) (d.number == number) (is_endpoint d.peer peer) (lt-ltb c d.expires_at (omega (arith, le, lasts))) same free
 
-pub same_peer : (c n number : ℕ) (peer : Endpoint) (d : Channel) → c ≤ n → clashes c number peer d ≡ false → nat_lt n d.until ≡ true → is_endpoint d.peer peer ≡ true → (d.number == number) ≡ true
+pub same_peer : (c n number : ℕ) (peer : Endpoint) (d : Channel) → c ≤ n → clashes c number peer d ≡ false → nat_lt n d.expires_at ≡ true → is_endpoint d.peer peer ≡ true → (d.number == number) ≡ true
 same_peer c n number peer d le free lives same =
-    let lasts = ltb-true n d.until lives in
-    clash_peer (nat_lt c d.until) (d.number == number) (is_endpoint d.peer peer) (lt-ltb c d.until (omega (arith, le, lasts))) same free
+    let lasts = ltb-true n d.expires_at lives in
+    clash_peer (nat_lt c d.expires_at) (d.number == number) (is_endpoint d.peer peer) (lt-ltb c d.expires_at (omega (arith, le, lasts))) same free

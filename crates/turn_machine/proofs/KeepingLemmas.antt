@@ -19,9 +19,9 @@ use Rattle.std.specs.List.{AllByRecursion}
 
 pub record Keeps (setup : Setup) (Who : ℕ → Type 0) (Q : State → Type 0) : Type 0 where
   pub time : (now : ℕ) (state : State) → Q state → Q (at now state)
-  pub opened : (tuple : FiveTuple) (user id until : ℕ) (want : Want) (offer : Offer) (state : State) → Who user → state.clock < until → can_open setup tuple user want state ≡ true → Q state → Q (with_relay tuple user id until want.family state offer)
+  pub opened : (tuple : FiveTuple) (user id expires_at : ℕ) (want : Want) (offer : Offer) (state : State) → Who user → state.clock < expires_at → can_open setup tuple user want state ≡ true → Q state → Q (with_relay tuple user id expires_at want.family state offer)
   pub ended : (test : Relay → Bool) (state : State) → Q state → Q (without test state)
-  pub lasted : (tuple : FiveTuple) (user : ℕ) (family : Option ℕ) (until : ℕ) (state : State) → state.clock < until → Q state → Q (changed tuple user (lasting family until) state)
+  pub lasted : (tuple : FiveTuple) (user : ℕ) (family : Option ℕ) (expires_at : ℕ) (state : State) → state.clock < expires_at → Q state → Q (changed tuple user (lasting family expires_at) state)
   pub permitted : (rules : Rules) (tuple : FiveTuple) (user : ℕ) (peers : List Endpoint) (state : State) → fault setup rules state tuple user (permit peers) ≡ None → Q state → Q (changed tuple user (permitting state.clock peers) state)
   pub bound : (rules : Rules) (tuple : FiveTuple) (user number : ℕ) (peer : Endpoint) (state : State) → fault setup rules state tuple user (bind number peer) ≡ None → Q state → Q (changed tuple user (binding (bound_for setup) state.clock number peer) state)
 
@@ -46,24 +46,24 @@ by_ready Q f state None q g = q
 by_ready Q f state (Some offer) q g = g offer refl
 
 -- a want is met, or nothing is opened for it
-pub open_cases : (setup : Setup) (Q : State → Type 0) (tuple : FiveTuple) (user id until : ℕ) (want : Want) (state : State) → Q state
-    → ((offer : Offer) → want.ready ≡ Some offer → can_open setup tuple user want state ≡ true → Q (with_relay tuple user id until want.family state offer)) → Q (opens_one setup tuple user id until want state)
-open_cases setup Q tuple user id until want state q met =
-    cond_both (can_open setup tuple user want state) (option_map_or (with_relay tuple user id until want.family state) want.ready state) state Q
-    (λ can. by_ready Q (with_relay tuple user id until want.family state) state want.ready q (λ offer ready. met offer ready can)) (λ _. q)
+pub open_cases : (setup : Setup) (Q : State → Type 0) (tuple : FiveTuple) (user id expires_at : ℕ) (want : Want) (state : State) → Q state
+    → ((offer : Offer) → want.ready ≡ Some offer → can_open setup tuple user want state ≡ true → Q (with_relay tuple user id expires_at want.family state offer)) → Q (opens_one setup tuple user id expires_at want state)
+open_cases setup Q tuple user id expires_at want state q met =
+    cond_both (can_open setup tuple user want state) (option_map_or (with_relay tuple user id expires_at want.family state) want.ready state) state Q
+    (λ can. by_ready Q (with_relay tuple user id expires_at want.family state) state want.ready q (λ offer ready. met offer ready can)) (λ _. q)
 
-pub one_clock : (setup : Setup) (tuple : FiveTuple) (user id until : ℕ) (want : Want) (state : State) → (opens_one setup tuple user id until want state).clock ≡ state.clock
-one_clock setup tuple user id until want state = open_cases setup (λ s. s.clock ≡ state.clock) tuple user id until want state refl (λ _ _ _. refl)
+pub one_clock : (setup : Setup) (tuple : FiveTuple) (user id expires_at : ℕ) (want : Want) (state : State) → (opens_one setup tuple user id expires_at want state).clock ≡ state.clock
+one_clock setup tuple user id expires_at want state = open_cases setup (λ s. s.clock ≡ state.clock) tuple user id expires_at want state refl (λ _ _ _. refl)
 
 -- what each opening keeps, all do
-pub opens_keep : (setup : Setup) (Q : State → Type 0) (tuple : FiveTuple) (user id until : ℕ)
-    → ((want : Want) (offer : Offer) (state : State) → state.clock < until → want.ready ≡ Some offer → can_open setup tuple user want state ≡ true → Q state → Q (with_relay tuple user id until want.family state offer))
-    → (wants : List Want) (state : State) → state.clock < until → Q state → Q (opens setup tuple user id until wants state)
-opens_keep setup Q tuple user id until met [] state later q = q
-opens_keep setup Q tuple user id until met (want ∷ wants) state later q =
-    opens_keep setup Q tuple user id until met wants (opens_one setup tuple user id until want state)
-    (subst (λ c. c < until) (sym (one_clock setup tuple user id until want state)) later)
-    (open_cases setup Q tuple user id until want state q (λ offer ready can. met want offer state later ready can q))
+pub opens_keep : (setup : Setup) (Q : State → Type 0) (tuple : FiveTuple) (user id expires_at : ℕ)
+    → ((want : Want) (offer : Offer) (state : State) → state.clock < expires_at → want.ready ≡ Some offer → can_open setup tuple user want state ≡ true → Q state → Q (with_relay tuple user id expires_at want.family state offer))
+    → (wants : List Want) (state : State) → state.clock < expires_at → Q state → Q (opens setup tuple user id expires_at wants state)
+opens_keep setup Q tuple user id expires_at met [] state later q = q
+opens_keep setup Q tuple user id expires_at met (want ∷ wants) state later q =
+    opens_keep setup Q tuple user id expires_at met wants (opens_one setup tuple user id expires_at want state)
+    (subst (λ c. c < expires_at) (sym (one_clock setup tuple user id expires_at want state)) later)
+    (open_cases setup Q tuple user id expires_at want state q (λ offer ready can. met want offer state later ready can q))
 
 refresh_keeps : (setup : Setup) (Who : ℕ → Type 0) (Q : State → Type 0) → Keeps setup Who Q → (tuple : FiveTuple) (user : ℕ) (family : Option ℕ) (lifetime : ℕ) (state : State) → Q state → Q (refreshes tuple user family lifetime state).state
 refresh_keeps setup Who Q keeps tuple user family lifetime state q =

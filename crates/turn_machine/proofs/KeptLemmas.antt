@@ -24,8 +24,8 @@ each_changed P Q tuple user change state on here each =
 pub his_same : {X : Type 0} (f : Relay → X) (tuple : FiveTuple) (user : ℕ) (change : Relay → Relay) → ((a : Relay) → f (change a) ≡ f a) → (a : Relay) → f (cond (is_owned tuple user a) (change a) a) ≡ f a
 his_same f tuple user change same a = cond_both (is_owned tuple user a) (change a) a (λ b. f b ≡ f a) (λ _. same a) (λ _. refl)
 
-pub lasting_same : {X : Type 0} (f : Relay → X) (family : Option ℕ) (until : ℕ) → ((a : Relay) → f (record a { until = until }) ≡ f a) → (a : Relay) → f (lasting family until a) ≡ f a
-lasting_same f family until same a = cond_both (is_wanted family a) (record a { until = until }) a (λ b. f b ≡ f a) (λ _. same a) (λ _. refl)
+pub lasting_same : {X : Type 0} (f : Relay → X) (family : Option ℕ) (expires_at : ℕ) → ((a : Relay) → f (record a { expires_at = expires_at }) ≡ f a) → (a : Relay) → f (lasting family expires_at a) ≡ f a
+lasting_same f family expires_at same a = cond_both (is_wanted family a) (record a { expires_at = expires_at }) a (λ b. f b ≡ f a) (λ _. same a) (λ _. refl)
 
 abbrev pub bound_after : (lifetime now number : ℕ) → Endpoint → Relay → Relay
 bound_after lifetime now number peer a = record a { permissions = with_permission_for lifetime now peer.ip a.permissions; channels = with_channel now number peer a.channels }
@@ -36,20 +36,20 @@ binding_same f lifetime now number peer same a = cond_both (peer.ip.family == a.
 -- ---- What is kept is live
 
 abbrev pub IsLive : State → Type 0
-IsLive state = AllByRecursion (λ a. state.clock < a.until) state.relays
+IsLive state = AllByRecursion (λ a. state.clock < a.expires_at) state.relays
 
 live_kept : (setup : Setup) → Keeps setup Anyone IsLive
 live_kept setup = record {
-  time = λ now state each. each_filtered (λ a. state.clock < a.until) (λ a. max state.clock now < a.until) (is_live (max state.clock now)) (λ a live _. ltb-true (max state.clock now) a.until live) state.relays each;
-  opened = λ tuple user id until want offer state who later can each. (later, each);
-  ended = λ test state each. each_filter (λ a. state.clock < a.until) (λ a. not (test a)) state.relays each;
-  lasted = λ tuple user family until state later each.
-      each_changed (λ a. state.clock < a.until) (λ a. state.clock < a.until) tuple user (lasting family until) state (λ a l. l)
-      (λ a _ l. cond_both (is_wanted family a) (record a { until = until }) a (λ (b : Relay). state.clock < b.until) (λ _. later) (λ _. l)) each;
-  permitted = λ rules tuple user peers state fit each. each_changed (λ a. state.clock < a.until) (λ a. state.clock < a.until) tuple user (permitting state.clock peers) state (λ a l. l) (λ a _ l. l) each;
+  time = λ now state each. each_filtered (λ a. state.clock < a.expires_at) (λ a. max state.clock now < a.expires_at) (is_live (max state.clock now)) (λ a live _. ltb-true (max state.clock now) a.expires_at live) state.relays each;
+  opened = λ tuple user id expires_at want offer state who later can each. (later, each);
+  ended = λ test state each. each_filter (λ a. state.clock < a.expires_at) (λ a. not (test a)) state.relays each;
+  lasted = λ tuple user family expires_at state later each.
+      each_changed (λ a. state.clock < a.expires_at) (λ a. state.clock < a.expires_at) tuple user (lasting family expires_at) state (λ a l. l)
+      (λ a _ l. cond_both (is_wanted family a) (record a { expires_at = expires_at }) a (λ (b : Relay). state.clock < b.expires_at) (λ _. later) (λ _. l)) each;
+  permitted = λ rules tuple user peers state fit each. each_changed (λ a. state.clock < a.expires_at) (λ a. state.clock < a.expires_at) tuple user (permitting state.clock peers) state (λ a l. l) (λ a _ l. l) each;
   bound = λ rules tuple user number peer state fit each.
-      each_changed (λ a. state.clock < a.until) (λ a. state.clock < a.until) tuple user (binding (bound_for setup) state.clock number peer) state (λ a l. l)
-      (λ a _ l. subst (λ n. state.clock < n) (sym (binding_same (λ b. b.until) (bound_for setup) state.clock number peer (λ _. refl) a)) l) each;
+      each_changed (λ a. state.clock < a.expires_at) (λ a. state.clock < a.expires_at) tuple user (binding (bound_for setup) state.clock number peer) state (λ a l. l)
+      (λ a _ l. subst (λ n. state.clock < n) (sym (binding_same (λ b. b.expires_at) (bound_for setup) state.clock number peer (λ _. refl) a)) l) each;
 }
 
 pub run_live : (setup : Setup) (events : List Timed) → IsLive (run setup events)
@@ -60,9 +60,9 @@ run_live setup events = run_keeps setup IsLive (live_kept setup) tt events
 short_kept : (setup : Setup) → Keeps setup Anyone (λ state. length state.relays ≤ setup.most_relays)
 short_kept setup = record {
   time = λ now state short. let fewer = length_filter (is_live (max state.clock now)) state.relays in omega (arith, short, fewer);
-  opened = λ tuple user id until want offer state who later can short. ltb-true (length state.relays) setup.most_relays (can_parts setup tuple user want state can).room;
+  opened = λ tuple user id expires_at want offer state who later can short. ltb-true (length state.relays) setup.most_relays (can_parts setup tuple user want state can).room;
   ended = λ test state short. let fewer = length_filter (λ a. not (test a)) state.relays in omega (arith, short, fewer);
-  lasted = λ tuple user family until state later short. subst (λ n. n ≤ setup.most_relays) (sym (length_map (λ a. cond (is_owned tuple user a) (lasting family until a) a) state.relays)) short;
+  lasted = λ tuple user family expires_at state later short. subst (λ n. n ≤ setup.most_relays) (sym (length_map (λ a. cond (is_owned tuple user a) (lasting family expires_at a) a) state.relays)) short;
   permitted = λ rules tuple user peers state fit short. subst (λ n. n ≤ setup.most_relays) (sym (length_map (λ a. cond (is_owned tuple user a) (permitting state.clock peers a) a) state.relays)) short;
   bound = λ rules tuple user number peer state fit short. subst (λ n. n ≤ setup.most_relays) (sym (length_map (λ a. cond (is_owned tuple user a) (binding (bound_for setup) state.clock number peer a) a) state.relays)) short;
 }
@@ -86,10 +86,10 @@ bound_length lifetime now peer a of = ap (λ (l : List Endpoint). length (with_p
 within_kept : (setup : Setup) → Keeps setup Anyone (λ state. AllByRecursion (IsWithin setup) state.relays)
 within_kept setup = record {
   time = λ now state each. each_filter (IsWithin setup) (is_live (max state.clock now)) state.relays each;
-  opened = λ tuple user id until want offer state who later can each. (record { permissions = zero-le; channels = zero-le }, each);
+  opened = λ tuple user id expires_at want offer state who later can each. (record { permissions = zero-le; channels = zero-le }, each);
   ended = λ test state each. each_filter (IsWithin setup) (λ a. not (test a)) state.relays each;
-  lasted = λ tuple user family until state later each. each_changed (IsWithin setup) (IsWithin setup) tuple user (lasting family until) state (λ a w. w)
-      (λ a _ w. cond_both (is_wanted family a) (record a { until = until }) a (IsWithin setup) (λ _. record { permissions = w.permissions; channels = w.channels }) (λ _. w)) each;
+  lasted = λ tuple user family expires_at state later each. each_changed (IsWithin setup) (IsWithin setup) tuple user (lasting family expires_at) state (λ a w. w)
+      (λ a _ w. cond_both (is_wanted family a) (record a { expires_at = expires_at }) a (IsWithin setup) (λ _. record { permissions = w.permissions; channels = w.channels }) (λ _. w)) each;
   permitted = λ rules tuple user peers state fit each.
       let fits = permit_none setup rules tuple user peers state fit in
       let lacks = lacks_permissions setup state.clock tuple user peers in
@@ -133,13 +133,13 @@ one_more false n most less le = omega (arith, le)
 quota_kept : (setup : Setup) → Keeps setup Anyone (IsWithinQuota setup)
 quota_kept setup = record {
   time = λ now state within user. let fewer = count_filter (is_users user) (is_live (max state.clock now)) state.relays in let w = within user in omega (arith, w, fewer);
-  opened = λ tuple user id until want offer state who later can within other.
+  opened = λ tuple user id expires_at want offer state who later can within other.
       let quota = ltb-true (count_by (is_users user) state.relays) setup.most_of_user (can_parts setup tuple user want state can).quota in
-      subst (λ n. n ≤ setup.most_of_user) (sym (count_cons (is_users other) (opened tuple user id until want.family state offer) state.relays))
+      subst (λ n. n ≤ setup.most_of_user) (sym (count_cons (is_users other) (opened tuple user id expires_at want.family state offer) state.relays))
       (one_more (user == other) (count_by (is_users other) state.relays) setup.most_of_user
       (λ same. subst (λ u. count_by (is_users u) state.relays < setup.most_of_user) (eqb-true user other same) quota) (within other));
   ended = λ test state within user. let fewer = count_filter (is_users user) (λ a. not (test a)) state.relays in let w = within user in omega (arith, w, fewer);
-  lasted = λ tuple user family until state later within. counted_same setup tuple user (lasting family until) state (lasting_same (λ b. b.user) family until (λ _. refl)) within;
+  lasted = λ tuple user family expires_at state later within. counted_same setup tuple user (lasting family expires_at) state (lasting_same (λ b. b.user) family expires_at (λ _. refl)) within;
   permitted = λ rules tuple user peers state fit within. counted_same setup tuple user (permitting state.clock peers) state (λ _. refl) within;
   bound = λ rules tuple user number peer state fit within. counted_same setup tuple user (binding (bound_for setup) state.clock number peer) state (binding_same (λ b. b.user) (bound_for setup) state.clock number peer (λ _. refl)) within;
 }

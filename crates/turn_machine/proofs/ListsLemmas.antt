@@ -144,6 +144,13 @@ length_map f (x ∷ xs) = ap suc (length_map f xs)
 pub count_cons : {X : Type 0} (p : X → Bool) (x : X) (xs : List X) → count_by p (x ∷ xs) ≡ cond (p x) 1 0 + count_by p xs
 count_cons p x xs = sum_by-cons (λ y. cond (p y) 1 0) x xs
 
+-- none passes, so none is counted
+pub count_none : {X : Type 0} (test : X → Bool) (xs : List X) → list_any test xs ≡ false → count_by test xs ≡ 0
+count_none test [] none = refl
+count_none test (x ∷ xs) none =
+    let parts = or_parts (test x) (list_any test xs) none in
+    count_cons test x xs ∙ (ap (λ (b : Bool). cond b 1 0 + count_by test xs) parts.0 ∙ (let more = count_none test xs parts.1 in omega (arith, more)))
+
 pub count_map : {X Y : Type 0} (test : Y → Bool) (other : X → Bool) (change : X → Y) → ((x : X) → test (change x) ≡ other x) → (xs : List X) → count_by test (map change xs) ≡ count_by other xs
 count_map test other change same [] = refl
 count_map test other change same (x ∷ xs) =

@@ -86,9 +86,9 @@ at_never : (b : Bool) (rest closed : ℕ) → (b ≡ true → ⊥) → rest + cl
 at_never true rest closed never e = absurd (never refl)
 at_never false rest closed never e = omega (arith, e)
 
-once_opened : (k : ℕ → ℕ) (tuple : FiveTuple) (user id until family : ℕ) (state : State) (offer : Offer) (closed : List ℕ) → IsOnce k state closed → IsOnce k (with_relay tuple user id until family state offer) closed
-once_opened k tuple user id until family state offer closed is =
-    let a = opened tuple user id until family state offer in
+once_opened : (k : ℕ → ℕ) (tuple : FiveTuple) (user id expires_at family : ℕ) (state : State) (offer : Offer) (closed : List ℕ) → IsOnce k state closed → IsOnce k (with_relay tuple user id expires_at family state offer) closed
+once_opened k tuple user id expires_at family state offer closed is =
+    let a = opened tuple user id expires_at family state offer in
     let m = number_for state offer in record {
       once = λ n. subst (λ (k : ℕ). k + times n closed ≤ 1) (sym (count_cons (is_at n) a state.relays))
           (at_once (m == n) (kept_times n state) (times n closed) (is.once n) (λ same. is.not_yet n (let e = eqb-true m n same in omega (arith, e))));
@@ -97,11 +97,11 @@ once_opened k tuple user id until family state offer closed is =
       least = λ n. let e = count_cons (is_at n) a state.relays in let l = is.least n in omega (arith, e, l);
     }
 
-opens_once : (k : ℕ → ℕ) (setup : Setup) (tuple : FiveTuple) (user id until : ℕ) (wants : List Want) (state : State) (closed : List ℕ) → IsOnce k state closed → IsOnce k (opens setup tuple user id until wants state) closed
-opens_once k setup tuple user id until [] state closed is = is
-opens_once k setup tuple user id until (want ∷ wants) state closed is =
-    opens_once k setup tuple user id until wants (opens_one setup tuple user id until want state) closed
-    (open_cases setup (λ s. IsOnce k s closed) tuple user id until want state is (λ offer _ _. once_opened k tuple user id until want.family state offer closed is))
+opens_once : (k : ℕ → ℕ) (setup : Setup) (tuple : FiveTuple) (user id expires_at : ℕ) (wants : List Want) (state : State) (closed : List ℕ) → IsOnce k state closed → IsOnce k (opens setup tuple user id expires_at wants state) closed
+opens_once k setup tuple user id expires_at [] state closed is = is
+opens_once k setup tuple user id expires_at (want ∷ wants) state closed is =
+    opens_once k setup tuple user id expires_at wants (opens_one setup tuple user id expires_at want state) closed
+    (open_cases setup (λ s. IsOnce k s closed) tuple user id expires_at want state is (λ offer _ _. once_opened k tuple user id expires_at want.family state offer closed is))
 
 abbrev StepOnce : (k : ℕ → ℕ) (closed : List ℕ) → Step → Type 0
 StepOnce k closed s = IsOnce k s.state (s.closes ++ closed)

@@ -26,10 +26,10 @@ AreOf users state = AllByRecursion (λ a. IsOneOf users a.user) state.relays
 of_kept : (setup : Setup) (users : List ℕ) → Keeps setup (IsOneOf users) (AreOf users)
 of_kept setup users = record {
   time = λ now state each. each_filter (λ a. IsOneOf users a.user) (is_live (max state.clock now)) state.relays each;
-  opened = λ tuple user id until want offer state who later can each. (who, each);
+  opened = λ tuple user id expires_at want offer state who later can each. (who, each);
   ended = λ test state each. each_filter (λ a. IsOneOf users a.user) (λ a. not (test a)) state.relays each;
-  lasted = λ tuple user family until state later each. each_changed (λ a. IsOneOf users a.user) (λ a. IsOneOf users a.user) tuple user (lasting family until) state (λ a w. w)
-      (λ a _ w. subst (IsOneOf users) (sym (lasting_same (λ b. b.user) family until (λ _. refl) a)) w) each;
+  lasted = λ tuple user family expires_at state later each. each_changed (λ a. IsOneOf users a.user) (λ a. IsOneOf users a.user) tuple user (lasting family expires_at) state (λ a w. w)
+      (λ a _ w. subst (IsOneOf users) (sym (lasting_same (λ b. b.user) family expires_at (λ _. refl) a)) w) each;
   permitted = λ rules tuple user peers state fit each. each_changed (λ a. IsOneOf users a.user) (λ a. IsOneOf users a.user) tuple user (permitting state.clock peers) state (λ a w. w) (λ a _ w. w) each;
   bound = λ rules tuple user number peer state fit each. each_changed (λ a. IsOneOf users a.user) (λ a. IsOneOf users a.user) tuple user (binding (bound_for setup) state.clock number peer) state (λ a w. w)
       (λ a _ w. subst (IsOneOf users) (sym (binding_same (λ b. b.user) (bound_for setup) state.clock number peer (λ _. refl) a)) w) each;

@@ -17,7 +17,7 @@ use Rattle.turn_machine.specs.Rows.{row, has_any, is_of_another, has_of_another,
 use Rattle.turn_machine.specs.Data.{allows}
 use Rattle.turn_machine.specs.Granting.{IsClash, IsFree, HasOf, LacksOf, IsOwn}
 use Rattle.turn_machine.specs.Refusals.{IsOfAnother, IsUnready, IsUncovered, HaveFamilies, LackFamily, LacksPermissions, LacksChannels, IsBadNumber, IsGoodNumber, IsAgain, AllocateRefusals, RefreshRefusals, PermitRefusals, BindRefusals, UnfitRefusals, is_left, different, IsRoomByLive, IsChannelRoomByLive}
-use Rattle.turn_machine.proofs.AddressesLemmas.{ip_same}
+use Rattle.stun_endpoints.proofs.AddressesLemmas.{ip_same}
 use Rattle.turn_machine.proofs.ListsLemmas.{each_map, none_any, any_none, some_any, any_some, some_map, all_each, each_all, some_not_all, not_all_some, count_cons, right_false}
 use Rattle.turn_machine.proofs.RowsLemmas.{not_no, not_yes, is_clash, clash_is, no_clash_is, is_no_clash}
 use Rattle.turn_machine.proofs.FaultLemmas.{refused_for, for_refused}
@@ -325,16 +325,16 @@ bind_refusals setup rules state now tuple user number peer =
 
 -- ---- Allocate
 
-again_of : (tuple : FiveTuple) (user id : ℕ) (s : State) → list_any (λ a. is_owned tuple user a && (a.opened_by == id)) s.relays ≡ false → IsAgain tuple user id s → ⊥
+again_of : (tuple : FiveTuple) (user id : ℕ) (s : State) → list_any (λ a. is_owned tuple user a && (a.transaction_id == id)) s.relays ≡ false → IsAgain tuple user id s → ⊥
 again_of tuple user id s none some =
-    false≢true (sym none ∙ some_any (λ a. is_owned tuple user a && (a.opened_by == id)) s.relays
-    (some_map (λ a. (is_owned tuple user a ≡ true) × (a.opened_by ≡ id)) (λ a. (is_owned tuple user a && (a.opened_by == id)) ≡ true) (λ a both. and_from (is_owned tuple user a) (a.opened_by == id) both.0 (eq-eqb a.opened_by id both.1)) s.relays some))
+    false≢true (sym none ∙ some_any (λ a. is_owned tuple user a && (a.transaction_id == id)) s.relays
+    (some_map (λ a. (is_owned tuple user a ≡ true) × (a.transaction_id ≡ id)) (λ a. (is_owned tuple user a && (a.transaction_id == id)) ≡ true) (λ a both. and_from (is_owned tuple user a) (a.transaction_id == id) both.0 (eq-eqb a.transaction_id id both.1)) s.relays some))
 
-not_again : (tuple : FiveTuple) (user id : ℕ) (s : State) → (IsAgain tuple user id s → ⊥) → list_any (λ a. is_owned tuple user a && (a.opened_by == id)) s.relays ≡ false
+not_again : (tuple : FiveTuple) (user id : ℕ) (s : State) → (IsAgain tuple user id s → ⊥) → list_any (λ a. is_owned tuple user a && (a.transaction_id == id)) s.relays ≡ false
 not_again tuple user id s never =
-    not_true (list_any (λ a. is_owned tuple user a && (a.opened_by == id)) s.relays)
-    (λ any. never (some_map (λ a. (is_owned tuple user a && (a.opened_by == id)) ≡ true) (λ a. (is_owned tuple user a ≡ true) × (a.opened_by ≡ id))
-    (λ a is. let both = and_parts (is_owned tuple user a) (a.opened_by == id) is in (both.0, eqb-true a.opened_by id both.1)) s.relays (any_some (λ a. is_owned tuple user a && (a.opened_by == id)) s.relays any)))
+    not_true (list_any (λ a. is_owned tuple user a && (a.transaction_id == id)) s.relays)
+    (λ any. never (some_map (λ a. (is_owned tuple user a && (a.transaction_id == id)) ≡ true) (λ a. (is_owned tuple user a ≡ true) × (a.transaction_id ≡ id))
+    (λ a is. let both = and_parts (is_owned tuple user a) (a.transaction_id == id) is in (both.0, eqb-true a.transaction_id id both.1)) s.relays (any_some (λ a. is_owned tuple user a && (a.transaction_id == id)) s.relays any)))
 
 unready_none : (setup : Setup) (wants : List Want) → IsUnready setup wants → list_any (is_ready setup) wants ≡ false
 unready_none setup wants each =
@@ -525,23 +525,23 @@ either_way false n = omega arith
 -- how many of the permissions pass a test, after peers were added: one for each of their IP
 -- addresses, and of those before what is left
 count_added : (k : Permission → Bool) (now : ℕ) (peer : Endpoint) (peers : List Endpoint) (ps : List Permission)
-    → count_by k (with_permissions now (peer ∷ peers) ps) ≡ added (λ i. k (record { ip = i; until = now + seconds 300 })) (peer ∷ peers) + count_by (λ p. k p && is_left now (peer ∷ peers) p) ps
+    → count_by k (with_permissions now (peer ∷ peers) ps) ≡ added (λ i. k (record { ip = i; expires_at = now + seconds 300 })) (peer ∷ peers) + count_by (λ p. k p && is_left now (peer ∷ peers) p) ps
 count_added k now peer [] ps =
-    let p : Permission = record { ip = peer.ip; until = now + seconds 300 } in
+    let p : Permission = record { ip = peer.ip; expires_at = now + seconds 300 } in
     let head = count_cons k p (filter (is_other_permission now peer.ip) ps) in
     let rest = count_filtered k (is_other_permission now peer.ip) ps in
-    let same = count_same (λ q. k q && is_other_permission now peer.ip q) (λ q. k q && is_left now (peer ∷ []) q) (λ q. counted_first (k q) (is_ip peer.ip q.ip) (nat_lt now q.until)) ps in
+    let same = count_same (λ q. k q && is_other_permission now peer.ip q) (λ q. k q && is_left now (peer ∷ []) q) (λ q. counted_first (k q) (is_ip peer.ip q.ip) (nat_lt now q.expires_at)) ps in
     omega (arith, head, rest, same)
 count_added k now peer (next ∷ peers) ps =
-    let p : Permission = record { ip = peer.ip; until = now + seconds 300 } in
+    let p : Permission = record { ip = peer.ip; expires_at = now + seconds 300 } in
     let live = lt-ltb now (now + seconds 300) (omega arith) in
     let before = with_permissions now (next ∷ peers) ps in
     let head = count_cons k p (filter (is_other_permission now peer.ip) before) in
     let rest = count_filtered k (is_other_permission now peer.ip) before in
     let more = count_added (λ q. k q && is_other_permission now peer.ip q) now next peers ps in
     let same = count_same (λ q. (k q && is_other_permission now peer.ip q) && is_left now (next ∷ peers) q) (λ q. k q && is_left now (peer ∷ next ∷ peers) q)
-    (λ q. left_parts (k q) (is_ip peer.ip q.ip) (nat_lt now q.until) (list_any (λ e. is_ip e.ip q.ip) (next ∷ peers))) ps in
-    let parts = split (λ i. k (record { ip = i; until = now + seconds 300 })) peer.ip (nat_lt now (now + seconds 300)) live (next ∷ peers) in
+    (λ q. left_parts (k q) (is_ip peer.ip q.ip) (nat_lt now q.expires_at) (list_any (λ e. is_ip e.ip q.ip) (next ∷ peers))) ps in
+    let parts = split (λ i. k (record { ip = i; expires_at = now + seconds 300 })) peer.ip (nat_lt now (now + seconds 300)) live (next ∷ peers) in
     let either = either_way (list_any (λ other. is_ip peer.ip other.ip) (next ∷ peers)) (cond (k p) 1 0) in
     omega (arith, head, rest, more, same, parts, either)
 

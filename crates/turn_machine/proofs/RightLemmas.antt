@@ -17,7 +17,7 @@ use Rattle.turn_machine.specs.Data.{allows, sent, sent_by, sent_on, has_channel,
 use Rattle.turn_machine.specs.Steps.{changed, closing, is_wanted, lasting, keeping, fulfils, is_again, answers_again, serves, step}
 use Rattle.turn_machine.specs.Runs.{Timed, Happening, run, happening, history}
 use Rattle.turn_machine.specs.Warrants.{Opens, end_of, Permits, Binds, BindsTo, Renews, ArePermitting, AreBinding, IsWarranted, IsRight}
-use Rattle.turn_machine.proofs.AddressesLemmas.{ip_same, endpoint_same, tuple_same}
+use Rattle.stun_endpoints.proofs.AddressesLemmas.{ip_same, endpoint_same, tuple_same}
 use Rattle.turn_machine.proofs.ListsLemmas.{each_map, each_filtered, found, some_both, since_both}
 use Rattle.turn_machine.proofs.Backed.{Installs, Attaches, AttachesTo, AreInstalling, IsInstalled, IsAttached, IsBacked}
 use Rattle.turn_machine.proofs.BackedLemmas.{run_backed}
@@ -52,8 +52,8 @@ split_all P (x ∷ since) h before each = let more = split_all P since h before 
 
 -- ---- What has not expired is still in time
 
-permits_on : (tuple : FiveTuple) (user : ℕ) (ip : Ip) (n until : ℕ) → n < until → (h : Happening) → h.moment ≤ n → Installs tuple user ip until h → Permits tuple user ip n h
-permits_on tuple user ip n until lasts h came g = record {
+permits_on : (tuple : FiveTuple) (user : ℕ) (ip : Ip) (n expires_at : ℕ) → n < expires_at → (h : Happening) → h.moment ≤ n → Installs tuple user ip expires_at h → Permits tuple user ip n h
+permits_on tuple user ip n expires_at lasts h came g = record {
   request = g.request;
   asked = g.asked;
   named = g.named;
@@ -63,21 +63,21 @@ permits_on tuple user ip n until lasts h came g = record {
   lasts = subst (λ (m : ℕ). n < m) (sym g.ends) lasts;
 }
 
-binds_on : (tuple : FiveTuple) (user number : ℕ) (peer : Endpoint) (n until : ℕ) → n < until → (h : Happening) → h.moment ≤ n → Attaches tuple user number peer until h → Binds tuple user number peer n h
-binds_on tuple user number peer n until lasts h came g = record { asked = g.asked; allowed = g.allowed; succeeded = g.succeeded; came = came; lasts = subst (λ (m : ℕ). n < m) (sym g.ends) lasts }
+binds_on : (tuple : FiveTuple) (user number : ℕ) (peer : Endpoint) (n expires_at : ℕ) → n < expires_at → (h : Happening) → h.moment ≤ n → Attaches tuple user number peer expires_at h → Binds tuple user number peer n h
+binds_on tuple user number peer n expires_at lasts h came g = record { asked = g.asked; allowed = g.allowed; succeeded = g.succeeded; came = came; lasts = subst (λ (m : ℕ). n < m) (sym g.ends) lasts }
 
-binds_to : (tuple : FiveTuple) (user : ℕ) (ip : Ip) (n until : ℕ) → n < until → (h : Happening) → h.moment ≤ n → AttachesTo tuple user ip until h → BindsTo tuple user ip n h
-binds_to tuple user ip n until lasts h came g = record { channel = g.channel; peer = g.peer; ip_is = g.ip_is; binds = binds_on tuple user g.channel g.peer n until lasts h came g.attaches }
+binds_to : (tuple : FiveTuple) (user : ℕ) (ip : Ip) (n expires_at : ℕ) → n < expires_at → (h : Happening) → h.moment ≤ n → AttachesTo tuple user ip expires_at h → BindsTo tuple user ip n h
+binds_to tuple user ip n expires_at lasts h came g = record { channel = g.channel; peer = g.peer; ip_is = g.ip_is; binds = binds_on tuple user g.channel g.peer n expires_at lasts h came g.attaches }
 
 -- `ArePermitting`, for an IP address
 abbrev AreLetting : Setup → FiveTuple → (user : ℕ) → Ip → (n : ℕ) → List Happening → Type 0
 AreLetting setup tuple user ip n since =
     SomeOf (Permits tuple user ip n) since ⊎ ((setup.channel_permits ≡ true) × SomeSince (BindsTo tuple user ip n) (λ h. ¬ (Renews tuple user ip h)) since)
 
-are_letting : (setup : Setup) (tuple : FiveTuple) (user : ℕ) (ip : Ip) (n until : ℕ) (since : List Happening) → n < until → AllByRecursion (λ h. h.moment ≤ n) since → AreInstalling setup tuple user ip until since → AreLetting setup tuple user ip n since
-are_letting setup tuple user ip n until since lasts came by = elim by [
-  | inl some ↦ inl (some_both (λ h. h.moment ≤ n) (Installs tuple user ip until) (Permits tuple user ip n) (λ h c g. permits_on tuple user ip n until lasts h c g) since came some)
-  | inr long ↦ inr (long.0, since_both (λ h. h.moment ≤ n) (AttachesTo tuple user ip until) (BindsTo tuple user ip n) (λ h. ¬ (Renews tuple user ip h)) (λ h c g. binds_to tuple user ip n until lasts h c g) since came long.1)
+are_letting : (setup : Setup) (tuple : FiveTuple) (user : ℕ) (ip : Ip) (n expires_at : ℕ) (since : List Happening) → n < expires_at → AllByRecursion (λ h. h.moment ≤ n) since → AreInstalling setup tuple user ip expires_at since → AreLetting setup tuple user ip n since
+are_letting setup tuple user ip n expires_at since lasts came by = elim by [
+  | inl some ↦ inl (some_both (λ h. h.moment ≤ n) (Installs tuple user ip expires_at) (Permits tuple user ip n) (λ h c g. permits_on tuple user ip n expires_at lasts h c g) since came some)
+  | inr long ↦ inr (long.0, since_both (λ h. h.moment ≤ n) (AttachesTo tuple user ip expires_at) (BindsTo tuple user ip n) (λ h. ¬ (Renews tuple user ip h)) (λ h c g. binds_to tuple user ip n expires_at lasts h c g) since came long.1)
 ]
 
 -- what is asked for, and of the relayed address's family
@@ -91,25 +91,25 @@ permitted setup since tuple user family n ip [] came each any = absurd (false≢
 permitted setup since tuple user family n ip (p ∷ ps) came each any =
     elim (or_cases (is_permission n ip p) (list_any (is_permission n ip) ps) any) [
       | inl first ↦
-          let both = and_parts (is_ip ip p.ip) (nat_lt n p.until) first in
+          let both = and_parts (is_ip ip p.ip) (nat_lt n p.expires_at) first in
           subst (IsLetIn setup since tuple user family n) (sym (ip_same ip p.ip both.0))
           (record {
-            asked = are_letting setup tuple user p.ip n p.until since (ltb-true n p.until both.1) came each.0.by;
+            asked = are_letting setup tuple user p.ip n p.expires_at since (ltb-true n p.expires_at both.1) came each.0.by;
             family_is = each.0.family_is;
           })
       | inr more ↦ permitted setup since tuple user family n ip ps came each.1 more
     ]
 
-bound_by : (since : List Happening) (tuple : FiveTuple) (user family n : ℕ) (c : Channel) → AllByRecursion (λ h. h.moment ≤ n) since → IsAttached since tuple user family c → nat_lt n c.until ≡ true → SomeOf (Binds tuple user c.number c.peer n) since
+bound_by : (since : List Happening) (tuple : FiveTuple) (user family n : ℕ) (c : Channel) → AllByRecursion (λ h. h.moment ≤ n) since → IsAttached since tuple user family c → nat_lt n c.expires_at ≡ true → SomeOf (Binds tuple user c.number c.peer n) since
 bound_by since tuple user family n c came is lasts =
-    some_both (λ h. h.moment ≤ n) (Attaches tuple user c.number c.peer c.until) (Binds tuple user c.number c.peer n) (λ h m g. binds_on tuple user c.number c.peer n c.until (ltb-true n c.until lasts) h m g) since came is.by
+    some_both (λ h. h.moment ≤ n) (Attaches tuple user c.number c.peer c.expires_at) (Binds tuple user c.number c.peer n) (λ h m g. binds_on tuple user c.number c.peer n c.expires_at (ltb-true n c.expires_at lasts) h m g) since came is.by
 
 -- ---- A warrant
 
 -- what is kept at a moment, with what has happened before
 record IsGood (setup : Setup) (hs : List Happening) (n : ℕ) (a : Relay) : Type 0 where
   backed : IsBacked setup hs a
-  live : n < a.until
+  live : n < a.expires_at
 
 since_of : (setup : Setup) (hs : List Happening) (n : ℕ) (a : Relay) → AllByRecursion (λ h. h.moment ≤ n) hs → (b : IsBacked setup hs a) → AllByRecursion (λ h. h.moment ≤ n) b.since × (b.opening.moment ≤ n)
 since_of setup hs n a came b = split_all (λ h. h.moment ≤ n) b.since b.opening b.before (subst (AllByRecursion (λ h. h.moment ≤ n)) b.split came)
@@ -155,7 +155,7 @@ sent_right setup hs n rules tuple peer dont_fragment bytes a came for g =
 sent_by_right : (setup : Setup) (hs : List Happening) (n : ℕ) (rules : Rules) (tuple : FiveTuple) (number : ℕ) (bytes : List ℕ) (a : Relay) → AllByRecursion (λ h. h.moment ≤ n) hs → is_of tuple a ≡ true → (g : IsGood setup hs n a) → (c : Channel) → is_channel n number c ≡ true
     → IsAttached g.backed.since a.tuple a.user a.family c → IsRight setup hs n rules (sends_on tuple number bytes) (sent_by rules bytes a c)
 sent_by_right setup hs n rules tuple number bytes a came of g c test attached =
-    let both = and_parts (c.number == number) (nat_lt n c.until) test in
+    let both = and_parts (c.number == number) (nat_lt n c.expires_at) test in
     let same = tuple_same tuple a.tuple of in
     cond_both (allows rules c.peer) (to_peer a.number c.peer false bytes) nothing (IsRight setup hs n rules (sends_on tuple number bytes))
     (λ allowed. (
@@ -194,7 +194,7 @@ received_right setup hs n rules number peer bytes a came at_it g =
     (number, refl, one.1, warranted setup hs n a.tuple number peer (ArePermitting setup a.tuple peer n) a came g refl here l.family_is l.asked)
     a.channels
     (λ c test attached.
-    let both = and_parts (is_endpoint c.peer peer) (nat_lt n c.until) test in (
+    let both = and_parts (is_endpoint c.peer peer) (nat_lt n c.expires_at) test in (
       number,
       peer,
       refl,
@@ -252,7 +252,7 @@ serve_answers setup rules tuple user request state =
 all_good : (setup : Setup) (events : List Timed) (now : ℕ) → AllByRecursion (IsGood setup (history setup events) (max (run setup events).clock now)) (at now (run setup events)).relays
 all_good setup events now =
     let n = max (run setup events).clock now in
-    each_filtered (IsBacked setup (history setup events)) (IsGood setup (history setup events) n) (is_live n) (λ a live b. record { backed = b; live = ltb-true n a.until live }) (run setup events).relays (run_backed setup events)
+    each_filtered (IsBacked setup (history setup events)) (IsGood setup (history setup events) n) (is_live n) (λ a live b. record { backed = b; live = ltb-true n a.expires_at live }) (run setup events).relays (run_backed setup events)
 
 came_by : (setup : Setup) (events : List Timed) (now : ℕ) → AllByRecursion (λ h. h.moment ≤ max (run setup events).clock now) (history setup events)
 came_by setup events now = each_map (λ h. h.moment ≤ (run setup events).clock) (λ h. h.moment ≤ max (run setup events).clock now) (λ h le. omega (arith, le)) (history setup events) (moments_before setup events)

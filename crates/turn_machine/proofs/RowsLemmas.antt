@@ -11,7 +11,7 @@ use Rattle.turn_machine.specs.Events.{Want, permit, bind}
 use Rattle.turn_machine.specs.Opening.{has_of, can_open}
 use Rattle.turn_machine.specs.Rows.{row, has_any, has_of_another, own_rows, lacks_permissions, have_families, permit_rows, clashes, is_bound_otherwise, is_channel_number, lacks_channels, bind_rows, fault}
 use Rattle.turn_machine.specs.Granting.{IsClash}
-use Rattle.turn_machine.proofs.AddressesLemmas.{endpoint_same, endpoint_is_itself}
+use Rattle.stun_endpoints.proofs.AddressesLemmas.{endpoint_same, endpoint_is_itself}
 
 pub row_none : (applies : Bool) (code : ℕ) (others : Option ℕ) → row applies code others ≡ None → (applies ≡ false) × (others ≡ None)
 row_none true code others e = absurd cc
@@ -114,9 +114,9 @@ clash_parts false number peer e = absurd (false≢true e)
 
 pub is_clash : (now number : ℕ) (peer : Endpoint) (c : Channel) → clashes now number peer c ≡ true → IsClash now number peer c
 is_clash now number peer c e =
-    let parts = clash_parts (nat_lt now c.until) (c.number == number) (is_endpoint c.peer peer) e in
+    let parts = clash_parts (nat_lt now c.expires_at) (c.number == number) (is_endpoint c.peer peer) e in
     record {
-      live = ltb-true now c.until parts.0;
+      live = ltb-true now c.expires_at parts.0;
       other = elim parts.1 [
         | inl one ↦ inl (eqb-true c.number number one.0, λ same. false≢true (sym one.1 ∙ subst (λ (x : Endpoint). is_endpoint c.peer x ≡ true) same (endpoint_is_itself c.peer)))
         | inr two ↦ inr (endpoint_same c.peer peer two.0, λ same. false≢true (sym two.1 ∙ eq-eqb c.number number same))
@@ -137,7 +137,7 @@ unequal n m never = not_true (n == m) (λ is. never (eqb-true n m is))
 
 pub clash_is : (now number : ℕ) (peer : Endpoint) (c : Channel) → IsClash now number peer c → clashes now number peer c ≡ true
 clash_is now number peer c is =
-    clash_from (nat_lt now c.until) (c.number == number) (is_endpoint c.peer peer) (lt-ltb now c.until is.live)
+    clash_from (nat_lt now c.expires_at) (c.number == number) (is_endpoint c.peer peer) (lt-ltb now c.expires_at is.live)
     (elim is.other [
       | inl one ↦ inl (eq-eqb c.number number one.0, not_true (is_endpoint c.peer peer) (λ same. one.1 (endpoint_same c.peer peer same)))
       | inr two ↦ inr (subst (λ (x : Endpoint). is_endpoint c.peer x ≡ true) two.0 (endpoint_is_itself c.peer), unequal c.number number two.1)

@@ -19,7 +19,7 @@ use Rattle.turn_machine.specs.Granting.{relay_of, given_of}
 use Rattle.turn_machine.specs.Warrants.{Opens, is_refresh, refreshed_in, refreshed_to, is_ended, end_of, Permits, Binds, BindsTo}
 use Rattle.turn_machine.specs.Works.{Lasted}
 use Rattle.turn_machine.specs.Warrants.{refreshes as refreshes_of}
-use Rattle.turn_machine.proofs.AddressesLemmas.{tuple_same, tuple_is_itself}
+use Rattle.stun_endpoints.proofs.AddressesLemmas.{tuple_same, tuple_is_itself}
 use Rattle.turn_machine.proofs.ListsLemmas.{each_map, each_filter, any_none, left_false, right_false, count_cons, some_any}
 use Rattle.turn_machine.proofs.RowsLemmas.{row_none, own_none, permit_none, bind_none}
 use Rattle.turn_machine.proofs.CasesLemmas.{serve_cases}
@@ -68,7 +68,7 @@ refresh_on setup tuple user number first dest n h since owner granted wanted lif
     ∙ (ap (λ (b : Bool). b && option_map_or (λ f. family == f) wanted true) (and_from (is_tuple tuple tuple) (user == owner) (tuple_is_itself tuple) (eq-eqb user owner owner_is))
     ∙ ap (λ (k : ℕ). option_map_or (λ f. k == f) wanted true) (sym family_is)) in
     let after = changed tuple owner (lasting wanted (state.clock + seconds granted)) state in
-    let later_one : Relay = record a { until = state.clock + seconds granted } in
+    let later_one : Relay = record a { expires_at = state.clock + seconds granted } in
     let told_refreshed : h.output ≡ answers tuple (refreshed granted) → is_wanted wanted a ≡ true → refreshed_to tuple user family h ≡ Some granted = λ reply of.
     cond-true (is_refresh tuple user family h.event) (refreshed_in h.output) None (same_test ∙ of) ∙ ap refreshed_in reply in
     let never : h.output ≡ answers tuple (refreshed granted) → Permits tuple user dest.ip n h → ⊥ = λ reply p. let e = sym reply ∙ p.succeeded in absurd cc in
@@ -130,11 +130,11 @@ own_on setup rules tuple user number first dest n h since owner request state le
 
 -- ---- Requests of others
 
-others_opened : (setup : Setup) (tuple other : FiveTuple) (user id until family : ℕ) (wants : List Want) (state : State) → state.clock < until → is_tuple tuple other ≡ false → relay_of tuple family (opens setup other user id until wants state) ≡ relay_of tuple family state
-others_opened setup tuple other user id until family wants state soon apart =
-    opens_keep setup (λ s. relay_of tuple family s ≡ relay_of tuple family state) other user id until
+others_opened : (setup : Setup) (tuple other : FiveTuple) (user id expires_at family : ℕ) (wants : List Want) (state : State) → state.clock < expires_at → is_tuple tuple other ≡ false → relay_of tuple family (opens setup other user id expires_at wants state) ≡ relay_of tuple family state
+others_opened setup tuple other user id expires_at family wants state soon apart =
+    opens_keep setup (λ s. relay_of tuple family s ≡ relay_of tuple family state) other user id expires_at
     (λ want offer s _ _ _ same.
-    cond-false (is_for tuple family (opened other user id until want.family s offer)) (Some (opened other user id until want.family s offer)) (find (is_for tuple family) s.relays) (left_false (is_tuple tuple other) (want.family == family) apart) ∙ same)
+    cond-false (is_for tuple family (opened other user id expires_at want.family s offer)) (Some (opened other user id expires_at want.family s offer)) (find (is_for tuple family) s.relays) (left_false (is_tuple tuple other) (want.family == family) apart) ∙ same)
     wants state soon refl
 
 pub differs : (tuple other : FiveTuple) → is_tuple tuple other ≡ false → tuple ≢ other
@@ -256,17 +256,17 @@ only_one P test (x ∷ xs) a one is (inr more) =
     (λ _ fails. only_one P test xs a (let c : count_by test (x ∷ xs) ≡ 0 + count_by test xs = counted ∙ ap (λ (b : Bool). cond b 1 0 + count_by test xs) fails in omega (arith, one, c)) (sym (cond-false (test x) (Some x) (find test xs) fails) ∙ is) more)
     (same_cond (test x))
 
-record IsOpened (tuple : FiveTuple) (user until : ℕ) (a : Relay) : Type 0 where
+record IsOpened (tuple : FiveTuple) (user expires_at : ℕ) (a : Relay) : Type 0 where
   user_is : a.user ≡ user
-  until_is : a.until ≡ until
+  until_is : a.expires_at ≡ expires_at
 
 -- what a client without an allocation has after its request is what was opened
-opened_all : (setup : Setup) (tuple : FiveTuple) (user id until : ℕ) (wants : List Want) (state : State) → state.clock < until → list_any (is_of tuple) state.relays ≡ false
-    → AllByRecursion (λ a. is_of tuple a ≡ true → IsOpened tuple user until a) (opens setup tuple user id until wants state).relays
-opened_all setup tuple user id until wants state soon free =
-    opens_keep setup (λ s. AllByRecursion (λ a. is_of tuple a ≡ true → IsOpened tuple user until a) s.relays) tuple user id until
+opened_all : (setup : Setup) (tuple : FiveTuple) (user id expires_at : ℕ) (wants : List Want) (state : State) → state.clock < expires_at → list_any (is_of tuple) state.relays ≡ false
+    → AllByRecursion (λ a. is_of tuple a ≡ true → IsOpened tuple user expires_at a) (opens setup tuple user id expires_at wants state).relays
+opened_all setup tuple user id expires_at wants state soon free =
+    opens_keep setup (λ s. AllByRecursion (λ a. is_of tuple a ≡ true → IsOpened tuple user expires_at a) s.relays) tuple user id expires_at
     (λ want offer s _ _ _ each. (λ _. record { user_is = refl; until_is = refl }, each)) wants state soon
-    (each_map (λ a. is_of tuple a ≡ false) (λ a. is_of tuple a ≡ true → IsOpened tuple user until a) (λ a isnt is. absurd (false≢true (sym isnt ∙ is))) state.relays (any_none (is_of tuple) state.relays free))
+    (each_map (λ a. is_of tuple a ≡ false) (λ a. is_of tuple a ≡ true → IsOpened tuple user expires_at a) (λ a isnt is. absurd (false≢true (sym isnt ∙ is))) state.relays (any_none (is_of tuple) state.relays free))
 
 abbrev Begins : Setup → FiveTuple → (user number clock granted : ℕ) → Endpoint → (n : ℕ) → List Given → List Missing → Step → Type 0
 Begins setup tuple user number clock granted dest n given missing s = s.output ≡ answers tuple (allocated given granted missing) → SomeOf (λ g. (g.family ≡ dest.ip.family) × (g.number ≡ number)) given → IsSingle s.state
@@ -276,8 +276,8 @@ fulfil_begins : (setup : Setup) (rules : Rules) (tuple : FiveTuple) (user id num
     → Begins setup tuple user number state.clock granted dest n given missing (fulfils setup tuple user (allocate id lifetime wants) state)
 fulfil_begins setup rules tuple user id number granted dest n lifetime wants given missing state free reply has single =
     let g = granted_for lifetime setup.greatest_lifetime in
-    let until = state.clock + seconds g in
-    let after = opens setup tuple user id until wants state in
+    let expires_at = state.clock + seconds g in
+    let after = opens setup tuple user id expires_at wants state in
     let e : answers tuple (allocated (given_to tuple after) g (missing_to setup tuple wants after)) ≡ answers tuple (allocated given granted missing) = reply in
     let given_is : given_to tuple after ≡ given = cc in
     let granted_is : g ≡ granted = cc in
@@ -285,7 +285,7 @@ fulfil_begins setup rules tuple user id number granted dest n lifetime wants giv
     let here = some_found (is_for tuple dest.ip.family) after.relays (some_any (is_for tuple dest.ip.family) after.relays (some_map (λ a. (is_for tuple dest.ip.family a ≡ true) × (a.number ≡ number)) (λ a. is_for tuple dest.ip.family a ≡ true) (λ a b. b.0) after.relays some)) in
     let a = here.0 in
     let of = (and_parts (is_of tuple a) (a.family == dest.ip.family) (has_found tuple dest.ip.family after a here.1)).0 in
-    let opened_is = found_is (λ b. is_of tuple b ≡ true → IsOpened tuple user until b) (is_for tuple dest.ip.family) after.relays a here.1 (opened_all setup tuple user id until wants state (later state.clock g (granted_least lifetime setup.greatest_lifetime)) free) of in
+    let opened_is = found_is (λ b. is_of tuple b ≡ true → IsOpened tuple user expires_at b) (is_for tuple dest.ip.family) after.relays a here.1 (opened_all setup tuple user id expires_at wants state (later state.clock g (granted_least lifetime setup.greatest_lifetime)) free) of in
     record {
       a = a;
       found = here.1;

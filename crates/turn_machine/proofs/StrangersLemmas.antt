@@ -52,7 +52,7 @@ quiet setup rules state now ticks is none = absurd (false≢true is)
 -- ---- As if it had not come
 
 still_over : (m k : ℕ) (a : Relay) → k ≤ m → is_live k a ≡ false → is_live m a ≡ false
-still_over m k a le over = let late = ltb-false k a.until over in le-ltb m a.until (omega (arith, le, late))
+still_over m k a le over = let late = ltb-false k a.expires_at over in le-ltb m a.expires_at (omega (arith, le, late))
 
 pub live_twice : (m k : ℕ) (all : List Relay) → k ≤ m → filter (is_live m) (filter (is_live k) all) ≡ filter (is_live m) all
 live_twice m k [] le = refl
@@ -158,10 +158,10 @@ filter_all : {X : Type 0} (test : X → Bool) (xs : List X) → AllByRecursion (
 filter_all test [] each = refl
 filter_all test (x ∷ xs) each = cond-true (test x) (x ∷ filter test xs) (filter test xs) each.0 ∙ ap (λ l. x ∷ l) (filter_all test xs each.1)
 
-pub not_due : (state : State) (now : ℕ) → AllByRecursion (λ a. max state.clock now < a.until) state.relays → (over_at now state ≡ []) × ((at now state).relays ≡ state.relays)
+pub not_due : (state : State) (now : ℕ) → AllByRecursion (λ a. max state.clock now < a.expires_at) state.relays → (over_at now state ≡ []) × ((at now state).relays ≡ state.relays)
 not_due state now each =
     let m = max state.clock now in
-    let live = each_map (λ a. m < a.until) (λ a. is_live m a ≡ true) (λ a less. lt-ltb m a.until less) state.relays each in (
+    let live = each_map (λ a. m < a.expires_at) (λ a. is_live m a ≡ true) (λ a less. lt-ltb m a.expires_at less) state.relays each in (
       ap numbers (filter_none (λ a. not (is_live m a)) state.relays (each_map (λ a. is_live m a ≡ true) (λ a. not (is_live m a) ≡ false) (λ a is. ap not is) state.relays live)),
       filter_all (is_live m) state.relays live,
     )

@@ -11,8 +11,8 @@ use Rattle.turn_machine.specs.Relays.{seconds, Permission, Channel, Relay, Setup
 use Rattle.turn_machine.specs.Rows.{clashes, is_bound_otherwise, is_other_channel, with_channel, is_other_permission, with_permission_for, with_permissions, peers_of}
 use Rattle.turn_machine.specs.Steps.{is_wanted, lasting, permitting, binding}
 use Rattle.turn_machine.specs.Runs.{Timed, run}
-use Rattle.turn_machine.proofs.AddressesLemmas.{ip_same, endpoint_same}
-use Rattle.turn_machine.proofs.ListsLemmas.{each_map, each_both, each_filter, each_filtered, each_always, any_none, left_false, count_cons, count_filter}
+use Rattle.stun_endpoints.proofs.AddressesLemmas.{ip_same, endpoint_same}
+use Rattle.turn_machine.proofs.ListsLemmas.{each_map, each_both, each_filter, each_filtered, each_always, none_any, any_none, left_false, count_cons, count_none, count_filter}
 use Rattle.turn_machine.proofs.RowsLemmas.{not_true, not_yes, bind_none}
 use Rattle.turn_machine.proofs.KeepingLemmas.{Keeps, Anyone, run_keeps}
 use Rattle.turn_machine.proofs.KeptLemmas.{each_changed, bound_after}
@@ -22,13 +22,6 @@ same_cond : (b : Bool) → b ≡ cond b true false
 same_cond true = refl
 same_cond false = refl
 
-none_counted : {X : Type 0} (test : X → Bool) (xs : List X) → AllByRecursion (λ x. test x ≡ false) xs → count_by test xs ≡ 0
-none_counted test [] each = refl
-none_counted test (x ∷ xs) each =
-    let more = none_counted test xs each.1 in
-    let here : count_by test (x ∷ xs) ≡ 0 + count_by test xs = count_cons test x xs ∙ ap (λ (b : Bool). cond b 1 0 + count_by test xs) each.0 in
-    omega (arith, more, here)
-
 -- one more, and all that are like it are gone
 replaced_once : {X : Type 0} (test keep : X → Bool) (new : X) (xs : List X) → count_by test xs ≤ 1 → (test new ≡ true → AllByRecursion (λ x. keep x ≡ true → test x ≡ false) xs) → count_by test (new ∷ filter keep xs) ≤ 1
 replaced_once test keep new xs once gone =
@@ -36,7 +29,8 @@ replaced_once test keep new xs once gone =
     let fewer = count_filter test keep xs in
     cond_both (test new) true false (λ (b : Bool). test new ≡ b → count_by test (new ∷ filter keep xs) ≤ 1)
     (λ _ yes.
-    let zero = none_counted test (filter keep xs) (each_filtered (λ x. keep x ≡ true → test x ≡ false) (λ x. test x ≡ false) keep (λ x kept f. f kept) xs (gone yes)) in
+    let each = each_filtered (λ x. keep x ≡ true → test x ≡ false) (λ x. test x ≡ false) keep (λ x kept f. f kept) xs (gone yes) in
+    let zero = count_none test (filter keep xs) (none_any test (filter keep xs) each) in
     let here : count_by test (new ∷ filter keep xs) ≡ 1 + count_by test (filter keep xs) = counted ∙ ap (λ (b : Bool). cond b 1 0 + count_by test (filter keep xs)) yes in
     omega (arith, zero, here))
     (λ _ no.
@@ -49,14 +43,14 @@ PermittedOnce ps = (m : ℕ) (ip : Ip) → count_by (is_permission m ip) ps ≤ 
 
 one_permitted : (lifetime now : ℕ) (ip : Ip) (ps : List Permission) → PermittedOnce ps → PermittedOnce (with_permission_for lifetime now ip ps)
 one_permitted lifetime now ip ps once m j =
-    let new : Permission = record { ip = ip; until = now + seconds lifetime } in
+    let new : Permission = record { ip = ip; expires_at = now + seconds lifetime } in
     replaced_once (is_permission m j) (is_other_permission now ip) new ps (once m j)
     (λ is.
     let same : j ≡ ip = ip_same j ip (and_parts (is_ip j ip) (nat_lt m (now + seconds lifetime)) is).0 in
     each_always (λ p. is_other_permission now ip p ≡ true → is_permission m j p ≡ false)
     (λ p kept.
-    let other : is_ip ip p.ip ≡ false = not_yes (is_ip ip p.ip) (and_parts (not (is_ip ip p.ip)) (nat_lt now p.until) kept).0 in
-    left_false (is_ip j p.ip) (nat_lt m p.until) (subst (λ (i : Ip). is_ip i p.ip ≡ false) (sym same) other)) ps)
+    let other : is_ip ip p.ip ≡ false = not_yes (is_ip ip p.ip) (and_parts (not (is_ip ip p.ip)) (nat_lt now p.expires_at) kept).0 in
+    left_false (is_ip j p.ip) (nat_lt m p.expires_at) (subst (λ (i : Ip). is_ip i p.ip ≡ false) (sym same) other)) ps)
 
 all_permitted : (now : ℕ) (peers : List Endpoint) (ps : List Permission) → PermittedOnce ps → PermittedOnce (with_permissions now peers ps)
 all_permitted now [] ps once = once
@@ -69,27 +63,27 @@ pub record IsUnique (a : Relay) : Type 0 where
 
 number_bound : (now number : ℕ) (peer : Endpoint) (cs : List Channel) (m n : ℕ) → count_by (is_channel m n) cs ≤ 1 → count_by (is_channel m n) (with_channel now number peer cs) ≤ 1
 number_bound now number peer cs m n once =
-    let new : Channel = record { number = number; peer = peer; until = now + seconds 600 } in
+    let new : Channel = record { number = number; peer = peer; expires_at = now + seconds 600 } in
     replaced_once (is_channel m n) (is_other_channel now number) new cs once
     (λ is.
     let same : number ≡ n = eqb-true number n (and_parts (number == n) (nat_lt m (now + seconds 600)) is).0 in
     each_always (λ c. is_other_channel now number c ≡ true → is_channel m n c ≡ false)
     (λ c kept.
-    let other : (c.number == number) ≡ false = not_yes (c.number == number) (and_parts (not (c.number == number)) (nat_lt now c.until) kept).0 in
-    left_false (c.number == n) (nat_lt m c.until) (subst (λ (k : ℕ). (c.number == k) ≡ false) same other)) cs)
+    let other : (c.number == number) ≡ false = not_yes (c.number == number) (and_parts (not (c.number == number)) (nat_lt now c.expires_at) kept).0 in
+    left_false (c.number == n) (nat_lt m c.expires_at) (subst (λ (k : ℕ). (c.number == k) ≡ false) same other)) cs)
 
 peer_bound : (now number : ℕ) (peer : Endpoint) (cs : List Channel) (m : ℕ) (q : Endpoint) → AllByRecursion (λ c. clashes now number peer c ≡ false) cs → count_by (is_channel_of m q) cs ≤ 1 → count_by (is_channel_of m q) (with_channel now number peer cs) ≤ 1
 peer_bound now number peer cs m q free once =
-    let new : Channel = record { number = number; peer = peer; until = now + seconds 600 } in
+    let new : Channel = record { number = number; peer = peer; expires_at = now + seconds 600 } in
     replaced_once (is_channel_of m q) (is_other_channel now number) new cs once
     (λ is.
     let same : peer ≡ q = endpoint_same peer q (and_parts (is_endpoint peer q) (nat_lt m (now + seconds 600)) is).0 in
     each_map (λ c. clashes now number peer c ≡ false) (λ c. is_other_channel now number c ≡ true → is_channel_of m q c ≡ false)
     (λ c clash kept.
-    let both = and_parts (not (c.number == number)) (nat_lt now c.until) kept in
+    let both = and_parts (not (c.number == number)) (nat_lt now c.expires_at) kept in
     let other : (c.number == number) ≡ false = not_yes (c.number == number) both.0 in
     let apart : is_endpoint c.peer peer ≡ false = not_true (is_endpoint c.peer peer) (λ at. false≢true (sym other ∙ same_peer now now number peer c (omega arith) clash both.1 at)) in
-    left_false (is_endpoint c.peer q) (nat_lt m c.until) (subst (λ (e : Endpoint). is_endpoint c.peer e ≡ false) same apart)) cs free)
+    left_false (is_endpoint c.peer q) (nat_lt m c.expires_at) (subst (λ (e : Endpoint). is_endpoint c.peer e ≡ false) same apart)) cs free)
 
 no_clash : (of any : Bool) → (of && any) ≡ false → of ≡ true → any ≡ false
 no_clash true any none is = none
@@ -112,11 +106,11 @@ AreUnique state = AllByRecursion IsUnique state.relays
 unique_kept : (setup : Setup) → Keeps setup Anyone AreUnique
 unique_kept setup = record {
   time = λ now state each. each_filter IsUnique (is_live (max state.clock now)) state.relays each;
-  opened = λ tuple user id until want offer state who later can each. (record { number = λ m n. zero-le; peer = λ m q. zero-le; permission = λ m ip. zero-le }, each);
+  opened = λ tuple user id expires_at want offer state who later can each. (record { number = λ m n. zero-le; peer = λ m q. zero-le; permission = λ m ip. zero-le }, each);
   ended = λ test state each. each_filter IsUnique (λ a. not (test a)) state.relays each;
-  lasted = λ tuple user family until state later each.
-      each_changed IsUnique IsUnique tuple user (lasting family until) state (λ a u. u)
-      (λ a _ u. cond_both (is_wanted family a) (record a { until = until }) a IsUnique (λ _. record { number = u.number; peer = u.peer; permission = u.permission }) (λ _. u)) each;
+  lasted = λ tuple user family expires_at state later each.
+      each_changed IsUnique IsUnique tuple user (lasting family expires_at) state (λ a u. u)
+      (λ a _ u. cond_both (is_wanted family a) (record a { expires_at = expires_at }) a IsUnique (λ _. record { number = u.number; peer = u.peer; permission = u.permission }) (λ _. u)) each;
   permitted = λ rules tuple user peers state fit each.
       each_changed IsUnique IsUnique tuple user (permitting state.clock peers) state (λ a u. u)
       (λ a _ u. record { number = u.number; peer = u.peer; permission = all_permitted state.clock (peers_of a peers) a.permissions u.permission }) each;

@@ -15,7 +15,7 @@ use Rattle.turn_machine.specs.Steps.{Step, changed, permitting, binding, is_agai
 use Rattle.turn_machine.specs.Runs.{Happening}
 use Rattle.turn_machine.specs.Granting.{relay_of}
 use Rattle.turn_machine.specs.Warrants.{refreshed_in, is_ended, end_of, names, Permits, Binds, BindsTo}
-use Rattle.turn_machine.proofs.AddressesLemmas.{ip_same, ip_is_itself, endpoint_same, endpoint_is_itself}
+use Rattle.stun_endpoints.proofs.AddressesLemmas.{ip_same, ip_is_itself, endpoint_same, endpoint_is_itself}
 use Rattle.turn_machine.proofs.ListsLemmas.{each_map, each_filter, any_none, find_true, left_false, any_filter}
 use Rattle.turn_machine.proofs.Backed.{not_refreshed}
 use Rattle.turn_machine.proofs.KeptLemmas.{his_same, binding_same, bound_after}
@@ -95,7 +95,7 @@ permit_on setup tuple user number first dest n h since owner peers state le mome
       found = found_changed tuple owner family (permitting c peers) state a (λ _. refl) (λ _. refl) his held.found;
       user_is = held.user_is;
       number_is = held.number_is;
-      ends = subst (λ (m : ℕ). m ≤ a.until) (sym (end_same tuple user family number first h since (ap (is_ended user number) asked) (not_refreshed tuple user family h (ap refreshed_in reply)))) held.ends;
+      ends = subst (λ (m : ℕ). m ≤ a.expires_at) (sym (end_same tuple user family number first h since (ap (is_ended user number) asked) (not_refreshed tuple user family h (ap refreshed_in reply)))) held.ends;
       permits = λ some. elim some [
         | inl p ↦
             let e : asks tuple owner (permit peers) ≡ asks tuple user p.request = sym asked ∙ p.asked in
@@ -132,9 +132,9 @@ same_cond false = refl
 -- ChannelBind
 after_bind : (c n number channel : ℕ) (peer dest : Endpoint) (cs : List Channel) → c ≤ n → n < c + seconds 600 → AllByRecursion (λ d. clashes c number peer d ≡ false) cs → HasChannel dest n channel cs → HasChannel dest n channel (with_channel c number peer cs)
 after_bind c n number channel peer dest cs le soon free has =
-    let new : Channel = record { number = number; peer = peer; until = c + seconds 600 } in
+    let new : Channel = record { number = number; peer = peer; expires_at = c + seconds 600 } in
     let test = find_true (is_channel n channel) cs has.c has.found in
-    let parts = and_parts (has.c.number == channel) (nat_lt n has.c.until) test in
+    let parts = and_parts (has.c.number == channel) (nat_lt n has.c.expires_at) test in
     let clash = found_is (λ d. clashes c number peer d ≡ false) (is_channel n channel) cs has.c has.found free in
     let only = each_filter (λ d. is_channel_of n dest d ≡ true → d.number ≡ channel) (is_other_channel c number) cs has.only in
     let head : is_channel_of n dest new ≡ true → number ≡ channel = λ is.
@@ -152,12 +152,12 @@ after_bind c n number channel peer dest cs le soon free has =
       only = (head, only);
     })
     (λ _ isnt.
-    let lasts = ltb-true n has.c.until parts.1 in
+    let lasts = ltb-true n has.c.expires_at parts.1 in
     let not_it : (has.c.number == number) ≡ false = not_true (has.c.number == number) (λ it. false≢true (sym isnt ∙ eq-eqb number channel (sym (eqb-true has.c.number number it) ∙ eqb-true has.c.number channel parts.0))) in
     record {
       c = has.c;
       found = cond-false (is_channel n channel new) (Some new) (find (is_channel n channel) (filter (is_other_channel c number) cs)) (left_false (number == channel) (nat_lt n (c + seconds 600)) isnt)
-          ∙ find_kept (is_channel n channel) (is_other_channel c number) cs has.c has.found (and_from (not (has.c.number == number)) (nat_lt c has.c.until) (ap not not_it) (lt-ltb c has.c.until (omega (arith, le, lasts))));
+          ∙ find_kept (is_channel n channel) (is_other_channel c number) cs has.c has.found (and_from (not (has.c.number == number)) (nat_lt c has.c.expires_at) (ap not not_it) (lt-ltb c has.c.expires_at (omega (arith, le, lasts))));
       is_dest = has.is_dest;
       only = (head, only);
     })
@@ -165,7 +165,7 @@ after_bind c n number channel peer dest cs le soon free has =
 
 new_bind : (c n number : ℕ) (dest : Endpoint) (cs : List Channel) → c ≤ n → n < c + seconds 600 → AllByRecursion (λ d. clashes c number dest d ≡ false) cs → HasChannel dest n number (with_channel c number dest cs)
 new_bind c n number dest cs le soon free =
-    let new : Channel = record { number = number; peer = dest; until = c + seconds 600 } in record {
+    let new : Channel = record { number = number; peer = dest; expires_at = c + seconds 600 } in record {
       c = new;
       found = cond-true (is_channel n number new) (Some new) (find (is_channel n number) (filter (is_other_channel c number) cs)) (and_from (number == number) (nat_lt n (c + seconds 600)) (eq-eqb number number refl) (lt-ltb n (c + seconds 600) soon));
       is_dest = refl;
@@ -173,7 +173,7 @@ new_bind c n number dest cs le soon free =
         λ _. refl,
         each_filter (λ d. is_channel_of n dest d ≡ true → d.number ≡ number) (is_other_channel c number) cs
             (each_map (λ d. clashes c number dest d ≡ false) (λ d. is_channel_of n dest d ≡ true → d.number ≡ number)
-            (λ d clash is. let both = and_parts (is_endpoint d.peer dest) (nat_lt n d.until) is in eqb-true d.number number (same_peer c n number dest d le clash both.1 both.0)) cs free),
+            (λ d clash is. let both = and_parts (is_endpoint d.peer dest) (nat_lt n d.expires_at) is in eqb-true d.number number (same_peer c n number dest d le clash both.1 both.0)) cs free),
       );
     }
 
@@ -197,7 +197,7 @@ bind_on setup tuple user number first dest n h since owner channel peer state le
     let clash : AllByRecursion (λ d. clashes c channel peer d ≡ false) a.channels = any_none (clashes c channel peer) a.channels
     (no_clash (is_of tuple a) (list_any (clashes c channel peer) a.channels) (found_is (λ b. is_bound_otherwise c tuple channel peer b ≡ false) (is_for tuple family) state.relays a held.found (any_none (is_bound_otherwise c tuple channel peer) state.relays free)) of) in
     let found = found_changed tuple owner family (binding (bound_for setup) c channel peer) state a (binding_same (λ b. b.tuple) (bound_for setup) c channel peer (λ _. refl)) (binding_same (λ b. b.family) (bound_for setup) c channel peer (λ _. refl)) his held.found in
-    let ends = subst (λ (m : ℕ). m ≤ a.until) (sym (end_same tuple user family number first h since (ap (is_ended user number) asked) (not_refreshed tuple user family h (ap refreshed_in reply)))) held.ends in
+    let ends = subst (λ (m : ℕ). m ≤ a.expires_at) (sym (end_same tuple user family number first h since (ap (is_ended user number) asked) (not_refreshed tuple user family h (ap refreshed_in reply)))) held.ends in
     let soon : SomeOf (Permits tuple user dest.ip n) (h ∷ since) → n < c + seconds 300 = λ some. elim some [
       | inl p ↦ subst (λ (m : ℕ). n < m + seconds 300) moment p.lasts
       | inr more ↦ held.soon more

@@ -375,6 +375,7 @@ held_cases =
     ∷ held_on 9 (ends_all 12) (answers (client 12) (refreshed 0)) None
     ∷ held_on 9 (reserves (client 12) alice 6 None (ipv4_want 60) (pair_with 61) 81)
     (no 12 508) None
+    ∷ held_on 9 (reserves (client 13) bob 2 None (ipv4_want 70) (pair_with 71) 80) (no 13 508) None
     ∷ held_on 9 (reserves (client 13) bob 2 None (ipv4_want 70) (pair_with 71) 82)
     (gets 13 (ipv4_given 4 70 ∷ []) 600) (Some 82)
     ∷ held_on 10 (plain (asks (client 13) bob (refresh None (Some 0))))

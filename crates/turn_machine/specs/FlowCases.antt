@@ -21,9 +21,9 @@ abbrev pub after : List Timed → (n channel : ℕ) → Option Flow → FlowCase
 after earlier n channel flow =
     record { earlier = earlier; tuple = client n; channel = channel; flow = flow }
 
-abbrev pub to : (number peer until : ℕ) → Option Flow
-to number peer until =
-    Some (record { number = number; peer = address peer; until = seconds until })
+abbrev pub to : (number peer expires_at : ℕ) → Option Flow
+to number peer expires_at =
+    Some (record { number = number; peer = address peer; expires_at = seconds expires_at })
 
 -- the newest event first. Alice's allocation lasts until 1001 s, Bob's until 604 s
 abbrev pub two_clients : List Timed

@@ -17,14 +17,14 @@ use Rattle.turn_machine.specs.Works.{output_of}
 pub record Flow : Type 0 where
   pub number : ℕ
   pub peer : Endpoint
-  pub until : ℕ
+  pub expires_at : ℕ
 
 -- The flow ends with the first of the relayed address, the channel and the permission
 abbrev pub flow_with : Relay → Channel → Permission → Flow
 flow_with a c p = record {
   number = a.number;
   peer = c.peer;
-  until = min a.until (min c.until p.until);
+  expires_at = min a.expires_at (min c.expires_at p.expires_at);
 }
 
 -- To the peer the channel is enough (12.6). Data from the peer needs a permission as well (9)
@@ -48,11 +48,11 @@ flow_of state tuple channel =
 -- allow the peer when the datagram arrives
 pub record IsRelayed (setup : Setup) (earlier : List Timed) (tuple : FiveTuple) (channel : ℕ)
     (flow : Flow) : Type 0 where
-  pub out : (now : ℕ) (rules : Rules) (bytes : List ℕ) → now < flow.until
+  pub out : (now : ℕ) (rules : Rules) (bytes : List ℕ) → now < flow.expires_at
       → (rules.allows_ip flow.peer.ip && rules.allows_port flow.peer) ≡ true
       → output_of setup earlier now rules (sends_on tuple channel bytes)
       ≡ to_peer flow.number flow.peer false bytes
-  pub back : (now : ℕ) (rules : Rules) (bytes : List ℕ) → now < flow.until
+  pub back : (now : ℕ) (rules : Rules) (bytes : List ℕ) → now < flow.expires_at
       → rules.allows_ip flow.peer.ip ≡ true
       → output_of setup earlier now rules (arrives flow.number flow.peer bytes)
       ≡ to_client_on tuple channel bytes
@@ -84,5 +84,5 @@ abbrev pub IsFirstEnd : FiveTuple → (channel : ℕ) → Flow → State → Typ
 IsFirstEnd tuple channel flow state =
     SomeOf (λ a. (a.tuple ≡ tuple) × (a.number ≡ flow.number)
     × SomeOf (λ c. (c.number ≡ channel) × (c.peer ≡ flow.peer)
-    × SomeOf (λ p. (p.ip ≡ flow.peer.ip) × (flow.until ≡ min a.until (min c.until p.until)))
+    × SomeOf (λ p. (p.ip ≡ flow.peer.ip) × (flow.expires_at ≡ min a.expires_at (min c.expires_at p.expires_at)))
     a.permissions) a.channels) state.relays

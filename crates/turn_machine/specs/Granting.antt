@@ -68,14 +68,14 @@ given_of a = record { family = a.family; number = a.number; address = a.address 
 -- One more relayed address, and nothing else changes: for this client, user and request, of this
 -- family, with the caller's socket, until this moment, with no permissions and no channels, under a
 -- number that was never given before
-pub record IsOpened (tuple : FiveTuple) (user id until family : ℕ) (offer : Offer)
+pub record IsOpened (tuple : FiveTuple) (user id expires_at family : ℕ) (offer : Offer)
     (old new : State) (a : Relay) : Type 0 where
   pub relays : new.relays ≡ a ∷ old.relays
   pub clock : new.clock ≡ old.clock
-  pub whose : (a.tuple ≡ tuple) × (a.user ≡ user) × (a.opened_by ≡ id)
+  pub whose : (a.tuple ≡ tuple) × (a.user ≡ user) × (a.transaction_id ≡ id)
   pub family_is : a.family ≡ family
   pub address_is : a.address ≡ offer.address
-  pub until_is : a.until ≡ until
+  pub until_is : a.expires_at ≡ expires_at
   pub empty : (a.permissions ≡ []) × (a.channels ≡ [])
   pub number_is_new : (old.next ≤ a.number) × (a.number < new.next)
 
@@ -83,7 +83,7 @@ pub record IsOpened (tuple : FiveTuple) (user id until family : ℕ) (offer : Of
 
 -- The number is bound to another peer, or the peer to another number (12.2)
 pub record IsClash (now number : ℕ) (peer : Endpoint) (c : Channel) : Type 0 where
-  pub live : now < c.until
+  pub live : now < c.expires_at
   pub other : ((c.number ≡ number) × (c.peer ≢ peer)) ⊎ ((c.peer ≡ peer) × (c.number ≢ number))
 
 -- in neither family of the client
@@ -127,11 +127,11 @@ OthersStay tuple old new = (other : FiveTuple) (family : ℕ) → other ≢ tupl
 
 -- whether a permission for an IP address is live at a moment
 abbrev pub permits_at : (now : ℕ) → Ip → Relay → Bool
-permits_at now ip a = list_any (λ p. is_ip ip p.ip && nat_lt now p.until) a.permissions
+permits_at now ip a = list_any (λ p. is_ip ip p.ip && nat_lt now p.expires_at) a.permissions
 
 -- the channel with a number, if it is live at a moment
 abbrev pub channel_at : (now number : ℕ) → Relay → Option Channel
-channel_at now number a = find (λ c. (c.number == number) && nat_lt now c.until) a.channels
+channel_at now number a = find (λ c. (c.number == number) && nat_lt now c.expires_at) a.channels
 
 -- a permission that lasts exactly so many seconds from a moment on
 pub record IsPermittedFrom (tuple : FiveTuple) (peer : Endpoint) (lifetime now : ℕ) (state : State)
@@ -147,7 +147,7 @@ pub record IsBoundFrom (tuple : FiveTuple) (number : ℕ) (peer : Endpoint) (now
   pub is : relay_of tuple peer.ip.family state ≡ Some relay
   pub lasts : (m : ℕ) → now ≤ m → m < now + seconds 600
       → channel_at m number relay
-      ≡ Some (record { number = number; peer = peer; until = now + seconds 600 })
+      ≡ Some (record { number = number; peer = peer; expires_at = now + seconds 600 })
   pub ends : (m : ℕ) → now + seconds 600 ≤ m → channel_at m number relay ≡ None
 
 -- whether a Refresh request is for a family: for one, or for all
@@ -156,9 +156,9 @@ IsFor None family = Unit {0}
 IsFor (Some wanted) family = wanted ≡ family
 
 -- The relayed address of a family lasts until a moment; or it has ended, and its number is reported
-abbrev pub LastsUntil : FiveTuple → (family until : ℕ) → (old new : State) → Type 0
-LastsUntil tuple family until old new = (a : Relay) → relay_of tuple family old ≡ Some a
-    → relay_of tuple family new ≡ Some (record a { until = until })
+abbrev pub LastsUntil : FiveTuple → (family expires_at : ℕ) → (old new : State) → Type 0
+LastsUntil tuple family expires_at old new = (a : Relay) → relay_of tuple family old ≡ Some a
+    → relay_of tuple family new ≡ Some (record a { expires_at = expires_at })
 
 pub record IsGone (tuple : FiveTuple) (family : ℕ) (old new : State) (closes : List ℕ) : Type 0
   where
@@ -210,6 +210,6 @@ pub record IsRepeated (setup : Setup) (tuple : FiveTuple) (wants : List Want) (o
   pub output : s.output
       ≡ answers tuple (allocated (all_given tuple old) left (all_missing setup tuple wants old))
   pub none_before : AllByRecursion (λ a. is_clients tuple a ≡ true
-      → old.clock + seconds left ≤ a.until) old.relays
+      → old.clock + seconds left ≤ a.expires_at) old.relays
   pub one_within : SomeOf (λ a. (is_clients tuple a ≡ true)
-      × (a.until < old.clock + seconds (left + 1))) old.relays
+      × (a.expires_at < old.clock + seconds (left + 1))) old.relays

@@ -11,24 +11,24 @@ use Rattle.turn_machine.specs.Events.{Offer, Want, Given, Missing, Answer, alloc
 abbrev pub number_for : State → Offer → ℕ
 number_for state offer = max state.next offer.number
 
-abbrev pub opened : FiveTuple → (user id until family : ℕ) → State → Offer → Relay
-opened tuple user id until family state offer = record {
+abbrev pub opened : FiveTuple → (user id expires_at family : ℕ) → State → Offer → Relay
+opened tuple user id expires_at family state offer = record {
   tuple = tuple;
   user = user;
-  opened_by = id;
+  transaction_id = id;
   family = family;
   number = number_for state offer;
   address = offer.address;
-  until = until;
+  expires_at = expires_at;
   permissions = [];
   channels = [];
 }
 
-abbrev pub with_relay : FiveTuple → (user id until family : ℕ) → State → Offer → State
-with_relay tuple user id until family state offer = record {
+abbrev pub with_relay : FiveTuple → (user id expires_at family : ℕ) → State → Offer → State
+with_relay tuple user id expires_at family state offer = record {
   clock = state.clock;
   next = number_for state offer + 1;
-  relays = opened tuple user id until family state offer ∷ state.relays;
+  relays = opened tuple user id expires_at family state offer ∷ state.relays;
 }
 
 abbrev pub has_of : FiveTuple → (family : ℕ) → State → Bool
@@ -40,16 +40,16 @@ can_open setup tuple user want state =
     && (has_quota setup user state
     && (has_room setup state && not (has_of tuple want.family state)))
 
-abbrev pub opens_one : Setup → FiveTuple → (user id until : ℕ) → Want → State → State
-opens_one setup tuple user id until want state =
+abbrev pub opens_one : Setup → FiveTuple → (user id expires_at : ℕ) → Want → State → State
+opens_one setup tuple user id expires_at want state =
     if can_open setup tuple user want state
-    then option_map_or (with_relay tuple user id until want.family state) want.ready state
+    then option_map_or (with_relay tuple user id expires_at want.family state) want.ready state
     else state
 
-abbrev pub opens : Setup → FiveTuple → (user id until : ℕ) → List Want → State → State
-opens setup tuple user id until [] state = state
-opens setup tuple user id until (want ∷ wants) state =
-    opens setup tuple user id until wants (opens_one setup tuple user id until want state)
+abbrev pub opens : Setup → FiveTuple → (user id expires_at : ℕ) → List Want → State → State
+opens setup tuple user id expires_at [] state = state
+opens setup tuple user id expires_at (want ∷ wants) state =
+    opens setup tuple user id expires_at wants (opens_one setup tuple user id expires_at want state)
 
 -- ---- The success response: the relayed addresses that the client now has, and for each family
 -- that it has none of the reason. A request that comes again gets the same response

@@ -110,7 +110,7 @@ IsRefusedOnly setup rules state now tuple user request codes = (code : ℕ)
 -- this user opened the allocation by a request with this transaction ID
 abbrev pub IsAgain : FiveTuple → (user id : ℕ) → State → Type 0
 IsAgain tuple user id state =
-    SomeOf (λ a. (is_clients_by tuple user a ≡ true) × (a.opened_by ≡ id)) state.relays
+    SomeOf (λ a. (is_clients_by tuple user a ≡ true) × (a.transaction_id ≡ id)) state.relays
 
 pub record AllocateRefusals (setup : Setup) (rules : Rules) (state : State) (now : ℕ)
     (tuple : FiveTuple) (user id : ℕ) (lifetime : Option ℕ) (wants : List Want) : Type 0 where
@@ -196,7 +196,7 @@ pub record UnfitRefusals (setup : Setup) (rules : Rules) (state : State) (now : 
 -- that are live and aren't asked for again
 
 abbrev pub is_left : ℕ → List Endpoint → Permission → Bool
-is_left now peers p = nat_lt now p.until && not (list_any (λ peer. is_ip peer.ip p.ip) peers)
+is_left now peers p = nat_lt now p.expires_at && not (list_any (λ peer. is_ip peer.ip p.ip) peers)
 
 -- how many IP addresses a list of peers has
 abbrev pub different : List Endpoint → ℕ
@@ -215,4 +215,4 @@ pub record IsRoomByLive (now : ℕ) (peers : List Endpoint) (a : Relay) : Type 0
 
 abbrev pub IsChannelRoomByLive : ℕ → (number : ℕ) → Endpoint → List Channel → Type 0
 IsChannelRoomByLive now number peer cs = length (with_channel now number peer cs)
-    ≡ 1 + count_by (λ c. not (c.number == number) && nat_lt now c.until) cs
+    ≡ 1 + count_by (λ c. not (c.number == number) && nat_lt now c.expires_at) cs

@@ -18,11 +18,11 @@ seconds n = n * 1_000_000_000
 pub record Relay : Type 0 where
   pub tuple : FiveTuple
   pub user : ℕ
-  pub opened_by : ℕ
+  pub transaction_id : ℕ
   pub family : ℕ
   pub number : ℕ
   pub address : Endpoint
-  pub until : ℕ
+  pub expires_at : ℕ
   pub permissions : List Permission
   pub channels : List Channel
 
@@ -65,7 +65,7 @@ pub record State : Type 0 where
 -- ---- The owner of a relayed address
 
 abbrev pub is_live : ℕ → Relay → Bool
-is_live now a = nat_lt now a.until
+is_live now a = nat_lt now a.expires_at
 
 abbrev pub is_of : FiveTuple → Relay → Bool
 is_of tuple a = is_tuple tuple a.tuple
@@ -95,13 +95,13 @@ has_quota setup user state = nat_lt (count_by (is_users user) state.relays) setu
 
 -- ports are not considered (9)
 abbrev pub is_permission : ℕ → Ip → Permission → Bool
-is_permission now ip p = is_ip ip p.ip && nat_lt now p.until
+is_permission now ip p = is_ip ip p.ip && nat_lt now p.expires_at
 
 abbrev pub is_permitted : ℕ → Ip → Relay → Bool
 is_permitted now ip a = list_any (is_permission now ip) a.permissions
 
 abbrev pub is_channel : ℕ → (number : ℕ) → Channel → Bool
-is_channel now number c = (c.number == number) && nat_lt now c.until
+is_channel now number c = (c.number == number) && nat_lt now c.expires_at
 
 abbrev pub is_channel_of : ℕ → Endpoint → Channel → Bool
-is_channel_of now peer c = is_endpoint c.peer peer && nat_lt now c.until
+is_channel_of now peer c = is_endpoint c.peer peer && nat_lt now c.expires_at

@@ -9,7 +9,7 @@ use Rattle.turn_machine.specs.Reserving.{Reservation}
 
 -- those that haven't expired at a moment
 abbrev pub live_at : (now : ℕ) → List Reservation → List Reservation
-live_at now held = filter (λ r. nat_lt now r.until) held
+live_at now held = filter (λ r. nat_lt now r.expires_at) held
 
 -- how many a user has, and whether that is below the quota
 abbrev pub count_of : (user : ℕ) → List Reservation → ℕ
@@ -18,13 +18,17 @@ count_of user held = count_by (λ r. r.user == user) held
 abbrev pub IsBelowQuota : Setup → (user : ℕ) → List Reservation → Type 0
 IsBelowQuota setup user held = count_of user held < setup.most_of_user
 
+-- how many have a token
+abbrev pub times_of : (token : ℕ) → List Reservation → ℕ
+times_of token held = count_by (λ r. r.token == token) held
+
 -- the reservation with a token, if it belongs to the user
 abbrev pub held_for : (user token : ℕ) → List Reservation → Option Reservation
 held_for user token held = find (λ r. (r.token == token) && (r.user == user)) held
 
--- the reservation that a client's request made, by its transaction ID
-abbrev pub made_by : FiveTuple → (id : ℕ) → List Reservation → Option Reservation
-made_by tuple id held = find (λ r. is_tuple tuple r.tuple && (r.id == id)) held
+-- the reservation that a user's request made, from this client and by its transaction ID
+abbrev pub made_by : FiveTuple → (user id : ℕ) → List Reservation → Option Reservation
+made_by tuple user id held = find (λ r. (is_tuple tuple r.tuple && (r.user == user)) && (r.id == id)) held
 
 -- this user's request reserved this socket for 30 seconds, with this token
 pub record IsReserved (now : ℕ) (tuple : FiveTuple) (user id : ℕ) (want : Want)
@@ -32,4 +36,4 @@ pub record IsReserved (now : ℕ) (tuple : FiveTuple) (user id : ℕ) (want : Wa
   pub token_is : r.token ≡ token
   pub whose : (r.tuple ≡ tuple) × (r.user ≡ user) × (r.id ≡ id)
   pub socket : (r.family ≡ want.family) × (r.address ≡ address)
-  pub until_is : r.until ≡ now + seconds 30
+  pub until_is : r.expires_at ≡ now + seconds 30

@@ -4,6 +4,7 @@
 -- (EVEN-PORT without the bit only limits which socket the caller offers.) A server without this
 -- layer treats both attributes as unknown.
 use Rattle.std.specs.Prelude.{ℕ, ◌+◌, Bool, true, false, not, ◌&&◌, ◌==◌, if◌then◌else◌, List, [], ◌∷◌, map, filter, find, count_by, length, max, nat_lt, Option, None, Some, is_some}
+use Rattle.std.specs.List.{list_any}
 use Rattle.std.specs.Option.{option_map, option_map_or}
 use Rattle.stun_endpoints.specs.declared.endpoints.Endpoint.{Endpoint}
 use Rattle.stun_endpoints.specs.declared.endpoints.FiveTuple.{FiveTuple}
@@ -24,7 +25,7 @@ pub record Reservation : Type 0 where
   pub id : ℕ
   pub family : ℕ
   pub address : Endpoint
-  pub until : ℕ
+  pub expires_at : ℕ
 
 pub record OuterState : Type 0 where
   pub state : State
@@ -41,7 +42,7 @@ pub data Outer : Type 0 where
       → (number : Option ℕ) → Outer
 
 abbrev pub is_held : ℕ → Reservation → Bool
-is_held now r = nat_lt now r.until
+is_held now r = nat_lt now r.expires_at
 
 abbrev pub held_at : ℕ → OuterState → List Reservation
 held_at now h = filter (is_held (max h.state.clock now)) h.held
@@ -64,14 +65,17 @@ has_place setup user held =
     nat_lt (count_by (is_users_held user) held) setup.most_of_user
     && nat_lt (length held) setup.most_reservations
 
--- The pair of ports is there, and a place for the reservation
-abbrev pub can_reserve : Setup → (user : ℕ) → (next : Option Endpoint) → List Reservation → Bool
-can_reserve setup user next held = is_some next && has_place setup user held
+-- The pair of ports is there, a place for the reservation, and a token that no other has (18.10)
+abbrev pub can_reserve : Setup → (user : ℕ) → (next : Option Endpoint) → (token : ℕ)
+    → List Reservation → Bool
+can_reserve setup user next token held =
+    is_some next && (has_place setup user held && not (list_any (is_token token) held))
 
-abbrev pub pair_want : Setup → (user : ℕ) → Want → (next : Option Endpoint) → List Reservation → Want
-pair_want setup user want next held = record {
+abbrev pub pair_want : Setup → (user : ℕ) → Want → (next : Option Endpoint) → (token : ℕ)
+    → List Reservation → Want
+pair_want setup user want next token held = record {
   family = want.family;
-  ready = if can_reserve setup user next held then want.ready else None;
+  ready = if can_reserve setup user next token held then want.ready else None;
 }
 
 abbrev pub reserved_offer : Reservation → (number : ℕ) → Offer
@@ -101,7 +105,7 @@ claimed_want setup tuple user token number state held =
 abbrev pub inner : Setup → State → List Reservation → Outer → Event
 inner setup state held (plain event) = event
 inner setup state held (reserves tuple user id lifetime want next token) =
-    asks tuple user (allocate id lifetime (pair_want setup user want next held ∷ []))
+    asks tuple user (allocate id lifetime (pair_want setup user want next token held ∷ []))
 inner setup state held (claims tuple user id lifetime token number) =
     asks tuple user
     (allocate id lifetime (claimed_want setup tuple user token number state held ∷ []))
@@ -125,7 +129,7 @@ reserved_by now tuple user id want address token = record {
   id = id;
   family = want.family;
   address = address;
-  until = now + seconds 30;
+  expires_at = now + seconds 30;
 }
 
 abbrev pub reservation : ℕ → Outer → Option Endpoint → List Reservation → List Reservation
@@ -136,7 +140,7 @@ reservation now _ _ held = held
 abbrev pub held_after : Setup → State → Outer → Output → List Reservation → List Reservation
 held_after setup state (plain event) output held = held
 held_after setup state (reserves tuple user id lifetime want next token) output held =
-    if is_opening tuple state output && can_reserve setup user next held
+    if is_opening tuple state output && can_reserve setup user next token held
     then reservation state.clock (reserves tuple user id lifetime want next token) next held
     else held
 held_after setup state (claims tuple user id lifetime token number) output held =
@@ -144,14 +148,14 @@ held_after setup state (claims tuple user id lifetime token number) output held 
 
 -- The token in a success response is that of the reservation which this very request made, also if
 -- it comes again
-abbrev pub is_reserved_by : FiveTuple → (id : ℕ) → Reservation → Bool
-is_reserved_by tuple id r = is_tuple tuple r.tuple && (r.id == id)
+abbrev pub is_reserved_by : FiveTuple → (user id : ℕ) → Reservation → Bool
+is_reserved_by tuple user id r = (is_tuple tuple r.tuple && is_users_held user r) && (r.id == id)
 
 abbrev pub token_for : Outer → Output → List Reservation → Option ℕ
 token_for (plain event) output held = None
 token_for (reserves tuple user id lifetime want next token) output held =
     if is_success output
-    then option_map_or (λ r. Some r.token) (find (is_reserved_by tuple id) held) None else None
+    then option_map_or (λ r. Some r.token) (find (is_reserved_by tuple user id) held) None else None
 token_for (claims tuple user id lifetime token number) output held = None
 
 -- A step: that of the machine; the reservations after it; the token in the response; and the tokens

@@ -56,11 +56,11 @@ has_wanted tuple family state = option_map_or (λ f. has_of tuple f state) famil
 -- One more permission, for so many seconds. It replaces the one for the same IP address, and expired
 -- ones go
 abbrev pub is_other_permission : ℕ → Ip → Permission → Bool
-is_other_permission now ip p = not (is_ip ip p.ip) && nat_lt now p.until
+is_other_permission now ip p = not (is_ip ip p.ip) && nat_lt now p.expires_at
 
 abbrev pub with_permission_for : (lifetime : ℕ) → ℕ → Ip → List Permission → List Permission
 with_permission_for lifetime now ip ps =
-    record { ip = ip; until = now + seconds lifetime } ∷ filter (is_other_permission now ip) ps
+    record { ip = ip; expires_at = now + seconds lifetime } ∷ filter (is_other_permission now ip) ps
 
 -- CreatePermission permits for 300 seconds
 abbrev pub with_permission : ℕ → Ip → List Permission → List Permission
@@ -94,17 +94,17 @@ permit_rows setup rules state tuple user peers =
 
 -- One more channel, for 600 seconds. It replaces the one with the same number, and expired ones go
 abbrev pub is_other_channel : ℕ → (number : ℕ) → Channel → Bool
-is_other_channel now number c = not (c.number == number) && nat_lt now c.until
+is_other_channel now number c = not (c.number == number) && nat_lt now c.expires_at
 
 abbrev pub with_channel : ℕ → (number : ℕ) → Endpoint → List Channel → List Channel
 with_channel now number peer cs =
-    record { number = number; peer = peer; until = now + seconds 600 }
+    record { number = number; peer = peer; expires_at = now + seconds 600 }
     ∷ filter (is_other_channel now number) cs
 
 -- the number is bound to another peer, or the peer to another number
 abbrev pub clashes : ℕ → (number : ℕ) → Endpoint → Channel → Bool
 clashes now number peer c =
-    nat_lt now c.until
+    nat_lt now c.expires_at
     && (((c.number == number) && not (is_endpoint c.peer peer))
     || (is_endpoint c.peer peer && not (c.number == number)))
 

@@ -39,8 +39,8 @@ closing test output state = record {
 abbrev pub is_wanted : (family : Option ℕ) → Relay → Bool
 is_wanted family a = option_map_or (λ f. a.family == f) family true
 
-abbrev pub lasting : (family : Option ℕ) → (until : ℕ) → Relay → Relay
-lasting family until a = if is_wanted family a then record a { until = until } else a
+abbrev pub lasting : (family : Option ℕ) → (expires_at : ℕ) → Relay → Relay
+lasting family expires_at a = if is_wanted family a then record a { expires_at = expires_at } else a
 
 abbrev pub permitting : ℕ → List Endpoint → Relay → Relay
 permitting now peers a = record a { permissions = permissions_after now peers a }
@@ -90,7 +90,7 @@ fulfils setup tuple user (unfit code) state = keeping state (answers tuple done)
 -- An Allocate request that comes again, by its transaction ID (7.2, the note on idempotency)
 abbrev pub is_again : FiveTuple → (user : ℕ) → Request → State → Bool
 is_again tuple user (allocate id lifetime wants) state =
-    list_any (λ a. is_owned tuple user a && (a.opened_by == id)) state.relays
+    list_any (λ a. is_owned tuple user a && (a.transaction_id == id)) state.relays
 is_again tuple user _ state = false
 
 abbrev pub answers_again : Setup → FiveTuple → Request → State → Output

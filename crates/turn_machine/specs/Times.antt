@@ -36,7 +36,7 @@ earlier_of end (Some other) = min end other
 abbrev pub first_end : FiveTuple → List Relay → Option ℕ
 first_end tuple [] = None
 first_end tuple (a ∷ all) =
-    if is_of tuple a then Some (earlier_of a.until (first_end tuple all)) else first_end tuple all
+    if is_of tuple a then Some (earlier_of a.expires_at (first_end tuple all)) else first_end tuple all
 
 abbrev pub left_of : FiveTuple → State → ℕ
 left_of tuple state =

@@ -9,7 +9,7 @@ pub struct Permission {
     /// The IP address of the peers.
     pub ip: Ip,
     /// When it expires, in nanoseconds of the caller's clock.
-    pub until: u128,
+    pub expires_at: u128,
 }
 
 /// A channel of a relayed address (RFC 8656, section 12): a number that is bound to a peer.
@@ -20,5 +20,5 @@ pub struct Channel {
     /// The peer that the number is bound to.
     pub peer: Endpoint,
     /// When it expires, in nanoseconds of the caller's clock.
-    pub until: u128,
+    pub expires_at: u128,
 }

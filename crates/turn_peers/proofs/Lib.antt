@@ -1,1 +1,2 @@
 mod LongestLemmas
+mod PortsLemmas

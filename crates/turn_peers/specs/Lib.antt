@@ -1,5 +1,6 @@
 pub mod Networks
 pub mod Peers
+pub mod Ranges
 pub mod Registry
 pub mod Texts
 pub mod Tunnels

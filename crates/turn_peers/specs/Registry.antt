@@ -4,7 +4,8 @@
 use Rattle.std.specs.Prelude.{ℕ, List, [], ◌∷◌}
 use Rattle.std.specs.declared.net.ip_addr.IpAddr.{IpAddr}
 use Rattle.std.specs.declared.net.ip_addr.IpAddr.TheVariants.{V4, V6}
-use Rattle.turn_peers.specs.declared.networks.Prefix.{Prefix}
+use Rattle.turn_peers.specs.declared.ranges.PeerRange.{PeerRange}
+use Rattle.turn_peers.specs.Ranges.{all_ports}
 use Rattle.stun_endpoints.specs.Conversions.{ip_of}
 
 abbrev pub ipv4 : (a b c d : ℕ) → IpAddr
@@ -212,8 +213,17 @@ open_ipv6 =
     []
 
 -- the prefix of the first bits of these addresses
-abbrev pub prefix4 : (a b c d length : ℕ) → Prefix
-prefix4 a b c d length = record { network = ip_of (ipv4 a b c d); length = length }
+-- all ports of a prefix, and some
+abbrev pub prefix4 : (a b c d length : ℕ) → PeerRange
+prefix4 a b c d length = all_ports (record { network = ip_of (ipv4 a b c d); length = length })
 
-abbrev pub prefix6 : (a b c d e f g h length : ℕ) → Prefix
-prefix6 a b c d e f g h length = record { network = ip_of (ipv6 a b c d e f g h); length = length }
+abbrev pub ports4 : (a b c d length first last : ℕ) → PeerRange
+ports4 a b c d length first last = record {
+  prefix = record { network = ip_of (ipv4 a b c d); length = length };
+  first_port = first;
+  last_port = last;
+}
+
+abbrev pub prefix6 : (a b c d e f g h length : ℕ) → PeerRange
+prefix6 a b c d e f g h length =
+    all_ports (record { network = ip_of (ipv6 a b c d e f g h); length = length })

@@ -1,30 +1,39 @@
 //! The prefixes that a TURN server denies unless its caller allows them.
 
 use crate::networks::Prefix;
+use crate::ranges::PeerRange;
 use stun_endpoints::Ip;
 
-/// A prefix of an IPv4 address.
+/// A prefix of an IPv4 address, with all ports.
 macro_rules! v4 {
     ($number:literal / $length:literal) => {
-        Prefix {
-            network: Ip {
-                family: 1,
-                number: $number,
+        PeerRange {
+            prefix: Prefix {
+                network: Ip {
+                    family: 1,
+                    number: $number,
+                },
+                length: $length,
             },
-            length: $length,
+            first_port: 0,
+            last_port: u16::MAX,
         }
     };
 }
 
-/// A prefix of an IPv6 address.
+/// A prefix of an IPv6 address, with all ports.
 macro_rules! v6 {
     ($number:literal / $length:literal) => {
-        Prefix {
-            network: Ip {
-                family: 2,
-                number: $number,
+        PeerRange {
+            prefix: Prefix {
+                network: Ip {
+                    family: 2,
+                    number: $number,
+                },
+                length: $length,
             },
-            length: $length,
+            first_port: 0,
+            last_port: u16::MAX,
         }
     };
 }
@@ -32,7 +41,7 @@ macro_rules! v6 {
 /// The prefixes that are denied by default: what is in the server's own host or network, what is no
 /// single host, and what holds an IPv4 address. Of the blocks in the special-purpose registry (RFC
 /// 6890) they leave those for documentation and 100::/64.
-pub const DENIED_BY_DEFAULT: [Prefix; 25] = [
+pub const DENIED_BY_DEFAULT: [PeerRange; 25] = [
     // 0.0.0.0/8, this network (RFC 1122, section 3.2.1.3)
     v4!(0x0000_0000 / 8),
     // 10.0.0.0/8, private (RFC 1918, section 3)

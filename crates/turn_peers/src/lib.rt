@@ -4,8 +4,8 @@
 //! should reach. So it asks a [`PeerPolicy`] about each peer.
 //!
 //! [`Peers`] is such a policy. It denies the prefixes in [`DENIED_BY_DEFAULT`], prefixes of the caller's
-//! choice, and the addresses and ports on which the server listens, and allows all other peers. The caller
-//! can also allow prefixes: of those that contain an address, the longest decides. Whatever the policy
+//! choice, with all ports or some, and the addresses and ports on which the server listens, and allows all other
+//! peers. The caller can also allow prefixes: of those that contain a peer, the longest decides. Whatever the policy
 //! allows, a server doesn't relay to Teredo and 6to4 addresses: [`is_tunnelled`] (section 21.4).
 //!
 //! # Examples
@@ -13,10 +13,11 @@
 //! ```
 //! use std::net::IpAddr;
 //! use stun_endpoints::Ip;
-//! use turn_peers::{PeerPolicy, Peers, is_tunnelled};
+//! use turn_peers::{PeerPolicy, Peers, Prefix, is_tunnelled};
 //!
 //! // Peers may also be in the office's network.
-//! let allowed = ["10.1.0.0/16".parse()?, "2002::/16".parse()?];
+//! let office: [Prefix; 2] = ["10.1.0.0/16".parse()?, "2002::/16".parse()?];
+//! let allowed = [office[0].into(), office[1].into()];
 //! let own = ["198.51.100.7:3478".parse()?];
 //! let peers = Peers { denied: &[], allowed: &allowed, listening: &own };
 //! for (text, relays) in [
@@ -38,12 +39,14 @@ mod networks;
 mod parse;
 mod peers;
 mod policy;
+mod ranges;
 mod tunnels;
 
 pub use defaults::DENIED_BY_DEFAULT;
-pub use facts::{longer_prefixes_overrule, registry_is_held};
-pub use laws::longest_prefix_decides;
+pub use facts::{longer_prefixes_overrule, ranges_are_of_their_ports, registry_is_held};
+pub use laws::{longest_prefix_decides, ports_are_of_allowed_addresses};
 pub use networks::{Prefix, PrefixError};
 pub use peers::Peers;
 pub use policy::PeerPolicy;
+pub use ranges::PeerRange;
 pub use tunnels::is_tunnelled;

@@ -13,8 +13,8 @@ pub trait PeerPolicy {
     ghost allows_port: { Self → Endpoint → Bool };
 
     /// Whether clients may exchange data with this IP address. If not, a CreatePermission or ChannelBind
-    /// request that names it is refused with 403. An address denied later keeps the permissions that it has:
-    /// with `turn_allocations` its data is dropped all the same, with `turn_table` it isn't.
+    /// request that names it is refused with 403. An address denied later keeps the permissions that it has,
+    /// and its data is dropped all the same.
     ///
     /// A Teredo or 6to4 address is refused whatever this returns (RFC 8656, section 21.4).
     fn allows_address(&self, ip: Ip) -> bool

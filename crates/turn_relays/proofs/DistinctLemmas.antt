@@ -12,7 +12,7 @@ use Rattle.turn_machine.specs.Relays.{seconds}
 use Rattle.turn_machine.specs.Rows.{is_other_permission, with_permission_for, with_permissions}
 use Rattle.turn_relays.specs.Granted.{AreDistinct}
 use Rattle.std.proofs.lemmas.List.{drop_more}
-use Rattle.turn_machine.proofs.AddressesLemmas.{ip_same}
+use Rattle.stun_endpoints.proofs.AddressesLemmas.{ip_same}
 
 pub either : (b : Bool) → (b ≡ true) ⊎ (b ≡ false)
 either true = inl refl
@@ -48,7 +48,7 @@ none_other : (now : ℕ) (ip : Ip) (ps : List Permission) → list_any (is_of_ip
 none_other now ip [] = refl
 none_other now ip (p ∷ ps) =
     cond_both (is_other_permission now ip p) (p ∷ filter (is_other_permission now ip) ps) (filter (is_other_permission now ip) ps) (λ (l : List Permission). list_any (is_of_ip ip) l ≡ false)
-    (λ so. neither (is_ip ip p.ip) (list_any (is_of_ip ip) (filter (is_other_permission now ip) ps)) (not_it (is_ip ip p.ip) (nat_lt now p.until) so) (none_other now ip ps))
+    (λ so. neither (is_ip ip p.ip) (list_any (is_of_ip ip) (filter (is_other_permission now ip) ps)) (not_it (is_ip ip p.ip) (nat_lt now p.expires_at) so) (none_other now ip ps))
     (λ _. none_other now ip ps)
 
 pub distinct_with : (lifetime now : ℕ) (ip : Ip) (ps : List Permission) → AreDistinct ps → AreDistinct (with_permission_for lifetime now ip ps)
@@ -61,13 +61,13 @@ distinct_all now (peer ∷ peers) ps apart = distinct_with 300 now peer.ip (with
 -- ---- How many there are
 
 abbrev AreLive : ℕ → List Permission → Type 0
-AreLive now ps = AllByRecursion (λ (p : Permission). nat_lt now p.until ≡ true) ps
+AreLive now ps = AllByRecursion (λ (p : Permission). nat_lt now p.expires_at ≡ true) ps
 
 live_filter : (now : ℕ) (ip : Ip) (ps : List Permission) → AreLive now (filter (is_other_permission now ip) ps)
 live_filter now ip [] = tt
 live_filter now ip (p ∷ ps) =
     cond_both (is_other_permission now ip p) (p ∷ filter (is_other_permission now ip) ps) (filter (is_other_permission now ip) ps) (AreLive now)
-    (λ so. ((and_parts (not (is_ip ip p.ip)) (nat_lt now p.until) so).1, live_filter now ip ps))
+    (λ so. ((and_parts (not (is_ip ip p.ip)) (nat_lt now p.expires_at) so).1, live_filter now ip ps))
     (λ _. live_filter now ip ps)
 
 live_with : (now : ℕ) (ip : Ip) (ps : List Permission) → AreLive now (with_permission_for 300 now ip ps)
@@ -81,20 +81,20 @@ keeps_all : (now : ℕ) (ip : Ip) (ps : List Permission) → AreLive now ps → 
 keeps_all now ip [] live none = refl
 keeps_all now ip (p ∷ ps) live none =
     let parts = both_false (is_ip ip p.ip) (list_any (is_of_ip ip) ps) none in
-    let stays : is_other_permission now ip p ≡ true = and_from (not (is_ip ip p.ip)) (nat_lt now p.until) (ap not parts.0) live.0 in
+    let stays : is_other_permission now ip p ≡ true = and_from (not (is_ip ip p.ip)) (nat_lt now p.expires_at) (ap not parts.0) live.0 in
     ap (λ (l : List Permission). length l) (cond-true (is_other_permission now ip p) (p ∷ filter (is_other_permission now ip) ps) (filter (is_other_permission now ip) ps) stays)
     ∙ ap suc (keeps_all now ip ps live.1 parts.1)
 
 no_fewer_by : (now : ℕ) (ip : Ip) (p : Permission) (ps : List Permission) → AreLive now (p ∷ ps) → AreDistinct (p ∷ ps) → length ps ≤ suc (length (filter (is_other_permission now ip) ps)) → (same : Bool) → is_ip ip p.ip ≡ same
     → length (p ∷ ps) ≤ suc (length (filter (is_other_permission now ip) (p ∷ ps)))
 no_fewer_by now ip p ps live apart more true is =
-    let gone : is_other_permission now ip p ≡ false = ap (λ (b : Bool). not b && nat_lt now p.until) is in
+    let gone : is_other_permission now ip p ≡ false = ap (λ (b : Bool). not b && nat_lt now p.expires_at) is in
     let cut = ap (λ (l : List Permission). length l) (cond-false (is_other_permission now ip p) (p ∷ filter (is_other_permission now ip) ps) (filter (is_other_permission now ip) ps) gone) in
     let none : list_any (is_of_ip ip) ps ≡ false = subst (λ (x : Ip). list_any (is_of_ip x) ps ≡ false) (sym (ip_same ip p.ip is)) apart.0 in
     let all = keeps_all now ip ps live.1 none in
     omega (arith, cut, all)
 no_fewer_by now ip p ps live apart more false isnt =
-    let stays : is_other_permission now ip p ≡ true = and_from (not (is_ip ip p.ip)) (nat_lt now p.until) (ap not isnt) live.0 in
+    let stays : is_other_permission now ip p ≡ true = and_from (not (is_ip ip p.ip)) (nat_lt now p.expires_at) (ap not isnt) live.0 in
     let kept = ap (λ (l : List Permission). length l) (cond-true (is_other_permission now ip p) (p ∷ filter (is_other_permission now ip) ps) (filter (is_other_permission now ip) ps) stays) in
     omega (arith, kept, more)
 

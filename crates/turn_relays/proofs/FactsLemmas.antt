@@ -22,6 +22,11 @@ module _ (next : ℕ) (s : State) (ks : List (Option Grants)) (t : IsTable next 
       let number : one.e.number ≡ two.e.number = ap (λ (x : Relay). x.number) one.relay ∙ (same ∙ sym (ap (λ (x : Relay). x.number) two.relay)) in
       sym (t.numbered slot one.e one.entry) ∙ (ap (λ (n : ℕ). n % places) number ∙ t.numbered other two.e two.entry)
 
+  pub numbers_slots : (slot : ℕ) (r : Relay) → get_or (relays_in s.entries ks) slot None ≡ Some r → r.number % places ≡ slot
+  numbers_slots slot r at =
+      let it = relay_from s.entries ks slot r at in
+      subst (λ (x : Relay). x.number % places ≡ slot) it.relay (t.numbered slot it.e it.entry)
+
   pub keys_distinct : (slot other : ℕ) (r q : Relay) → get_or (relays_in s.entries ks) slot None ≡ Some r → get_or (relays_in s.entries ks) other None ≡ Some q
       → is_for r.tuple r.family q ≡ true → slot ≡ other
   keys_distinct slot other r q at too same =
@@ -36,10 +41,10 @@ module _ (next : ℕ) (s : State) (ks : List (Option Grants)) (t : IsTable next 
       let it = relay_from s.entries ks slot r at in
       subst (λ (x : Relay). x.number < next) it.relay (t.below slot it.e it.entry)
 
-  pub ends_possible : (slot : ℕ) (r : Relay) → get_or (relays_in s.entries ks) slot None ≡ Some r → r.until < never
+  pub ends_possible : (slot : ℕ) (r : Relay) → get_or (relays_in s.entries ks) slot None ≡ Some r → r.expires_at < never
   ends_possible slot r at =
       let it = relay_from s.entries ks slot r at in
-      subst (λ (x : Relay). x.until < never) it.relay (t.soon slot it.e it.entry)
+      subst (λ (x : Relay). x.expires_at < never) it.relay (t.soon slot it.e it.entry)
 
   -- ---- Which ends first
 
@@ -55,7 +60,7 @@ module _ (next : ℕ) (s : State) (ks : List (Option Grants)) (t : IsTable next 
         some = (it.0.0, relay_of it.0.1 there.0, there.2, it.0.3);
         least = λ slot r at.
             let from = relay_from s.entries ks slot r at in
-            subst (λ (x : Relay). due ≤ x.until) from.relay (it.1 slot from.e from.entry);
+            subst (λ (x : Relay). due ≤ x.expires_at) from.relay (it.1 slot from.e from.entry);
       }) is
 
   pub none_ends : (found : Option ℕ) → IfNone found ((slot : ℕ) → slot < length s.entries → get_or s.entries slot None ≡ None)

@@ -335,11 +335,11 @@ record Was (i : ℕ) (x : Entry) (xs : List (Option Entry)) : Type 0 where
   user : x.user ≡ e.user
   number : x.number ≡ e.number
 
-was_there : (slot until : ℕ) (e : Entry) (xs : List (Option Entry)) → get_or xs slot None ≡ Some e → (i : ℕ) (x : Entry)
-    → get_or (set xs slot (Some (record e { deadline = until }))) i None ≡ Some x → Was i x xs
-was_there slot until e xs at i x at_i = elim (set_at xs slot (Some (record e { deadline = until })) i x at_i) [
+was_there : (slot expires_at : ℕ) (e : Entry) (xs : List (Option Entry)) → get_or xs slot None ≡ Some e → (i : ℕ) (x : Entry)
+    → get_or (set xs slot (Some (record e { deadline = expires_at }))) i None ≡ Some x → Was i x xs
+was_there slot expires_at e xs at i x at_i = elim (set_at xs slot (Some (record e { deadline = expires_at })) i x at_i) [
   | inl new ↦
-      let same = some_is (record e { deadline = until }) x new.1 in
+      let same = some_is (record e { deadline = expires_at }) x new.1 in
       record {
         e = e;
         at = ap (λ (n : ℕ). get_or xs n None) new.0 ∙ at;
@@ -350,9 +350,9 @@ was_there slot until e xs at i x at_i = elim (set_at xs slot (Some (record e { d
   | inr old ↦ record { e = x; at = old; key = refl; user = refl; number = refl }
 ]
 
-pub changed_table : (next : ℕ) (s : State) (ks : List (Option Grants)) → IsTable next s ks → (slot until : ℕ) (e : Entry) → get_or s.entries slot None ≡ Some e
-    → until < never → (s2 : State) → s2 ≡ record s { entries = set s.entries slot (Some (record e { deadline = until })) } → IsTable next s2 ks
-changed_table next s ks t slot until e at early s2 is = subst (λ (z : State). IsTable next z ks) (sym is) (record {
+pub changed_table : (next : ℕ) (s : State) (ks : List (Option Grants)) → IsTable next s ks → (slot expires_at : ℕ) (e : Entry) → get_or s.entries slot None ≡ Some e
+    → expires_at < never → (s2 : State) → s2 ≡ record s { entries = set s.entries slot (Some (record e { deadline = expires_at })) } → IsTable next s2 ks
+changed_table next s ks t slot expires_at e at early s2 is = subst (λ (z : State). IsTable next z ks) (sym is) (record {
   few = let few = t.few in let size = length-set s.entries slot (Some f) in omega (arith, few, size);
   size = t.size ∙ sym (length-set s.entries slot (Some f));
   beside = λ i. some_kept s.entries slot e f at i ∙ t.beside i;
@@ -372,10 +372,10 @@ changed_table next s ks t slot until e at early s2 is = subst (λ (z : State). I
 })
   where
     f : Entry
-    f = record e { deadline = until }
+    f = record e { deadline = expires_at }
 
     was : (i : ℕ) (x : Entry) → get_or (set s.entries slot (Some f)) i None ≡ Some x → Was i x s.entries
-    was = was_there slot until e s.entries at
+    was = was_there slot expires_at e s.entries at
 
 pub relays_changed : (es : List (Option Entry)) (ks : List (Option Grants)) (slot : ℕ) (f : Entry) (g : Grants) → slot < length es → get_or ks slot None ≡ Some g
     → relays_in (set es slot (Some f)) ks ≡ set (relays_in es ks) slot (Some (relay_of f g))

@@ -6,3 +6,4 @@ pub mod Following
 pub mod Shown
 pub mod Facts
 pub mod Listing
+pub mod Iterating

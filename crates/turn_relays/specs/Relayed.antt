@@ -15,14 +15,14 @@ use Rattle.turn_relays.specs.Newest.{newest_first}
 
 -- what is kept of a relayed address besides its entry in the slots
 pub record Grants : Type 0 where
-  pub opened_by : ℕ
+  pub transaction_id : ℕ
   pub address : Endpoint
   pub permissions : List Permission
   pub channels : List Channel
 
-abbrev pub new_grants : (opened_by : ℕ) → Endpoint → Grants
-new_grants opened_by address = record {
-  opened_by = opened_by;
+abbrev pub new_grants : (transaction_id : ℕ) → Endpoint → Grants
+new_grants transaction_id address = record {
+  transaction_id = transaction_id;
   address = address;
   permissions = [];
   channels = [];
@@ -44,7 +44,7 @@ bound lifetime now number peer g = record g {
 -- what a relayed address has besides
 abbrev pub grants_of : Relay → Grants
 grants_of r = record {
-  opened_by = r.opened_by;
+  transaction_id = r.transaction_id;
   address = r.address;
   permissions = r.permissions;
   channels = r.channels;
@@ -55,11 +55,11 @@ abbrev pub relay_of : Entry → Grants → Relay
 relay_of e g = record {
   tuple = e.key.tuple;
   user = user_number e.user;
-  opened_by = g.opened_by;
+  transaction_id = g.transaction_id;
   family = e.key.family;
   number = e.number;
   address = g.address;
-  until = e.deadline;
+  expires_at = e.deadline;
   permissions = g.permissions;
   channels = g.channels;
 }
@@ -120,15 +120,15 @@ abbrev pub IsClosed : Table → Type 0
 IsClosed t = ((slot : ℕ) → slot < length t.slots → (r : Relay) × Holds t slot r) ⊎ (t.openings ≡ rounds)
 
 -- a relayed address when it is opened: with no permissions and no channels
-abbrev pub opened : RelayKey → (user opened_by : ℕ) → Endpoint → (until number : ℕ) → Relay
-opened key user opened_by address until number = record {
+abbrev pub opened : RelayKey → (user transaction_id : ℕ) → Endpoint → (expires_at number : ℕ) → Relay
+opened key user transaction_id address expires_at number = record {
   tuple = key.tuple;
   user = user;
-  opened_by = opened_by;
+  transaction_id = transaction_id;
   family = key.family;
   number = number;
   address = address;
-  until = until;
+  expires_at = expires_at;
   permissions = [];
   channels = [];
 }

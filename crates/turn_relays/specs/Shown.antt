@@ -13,8 +13,8 @@ abbrev pub relayed_of : Relay → Relayed
 relayed_of r = record {
   key = record { tuple = r.tuple; family = r.family };
   user = user_of_number r.user;
-  opened_by = r.opened_by;
+  transaction_id = r.transaction_id;
   number = r.number;
   address = r.address;
-  until = r.until;
+  expires_at = r.expires_at;
 }

@@ -15,7 +15,7 @@ const LASTING: u128 = 600_000_000_000;
 fn clear<const C: usize>(channels: &mut ArrayVec<Channel, C>, now: u128, number: u16)
     ensures { channels.new.items ≡ filter (is_other_channel now number) channels.old.items }
 {
-    channels.retain(|c| !(c.number == number) && now < c.until);
+    channels.retain(|c| !(c.number == number) && now < c.expires_at);
 }
 
 /// How many channels of other numbers haven't expired.
@@ -24,7 +24,7 @@ fn others<const C: usize>(channels: &ArrayVec<Channel, C>, now: u128, number: u1
 {
     channels
         .iter()
-        .filter(|c| !(c.number == number) && now < c.until)
+        .filter(|c| !(c.number == number) && now < c.expires_at)
         .count()
 }
 
@@ -58,7 +58,7 @@ pub(crate) fn put<const C: usize>(
         Channel {
             number,
             peer,
-            until: now + LASTING,
+            expires_at: now + LASTING,
         },
     );
 }

@@ -11,7 +11,7 @@ use turn_machine::{Channel, Permission};
 #[derive(Drop)]
 pub(crate) struct Kept<const P: usize, const C: usize> {
     /// The transaction ID of the request that opened it.
-    pub(crate) opened_by: u128,
+    pub(crate) transaction_id: u128,
     /// The relayed transport address.
     pub(crate) address: Endpoint,
     /// Who may send to it.
@@ -28,7 +28,7 @@ impl<const P: usize, const C: usize> Model for Kept<P, C> {
     ghost Value = { Grants };
 
     ghost view = { λ kept. record {
-      opened_by = kept.opened_by;
+      transaction_id = kept.transaction_id;
       address = kept.address;
       permissions = kept.permissions.items;
       channels = kept.channels.items;
@@ -49,13 +49,13 @@ impl<const P: usize, const C: usize> Kept<P, C> {
     ghost use Rattle.turn_relays.specs.Relayed.{new_grants, bound};
 
     /// Makes one with no permissions and no channels.
-    pub(crate) fn new(opened_by: u128, address: Endpoint) -> Self
+    pub(crate) fn new(transaction_id: u128, address: Endpoint) -> Self
         requires permissions { P ≤ 65_535 }
         requires channels { C ≤ 65_535 }
-        ensures { result ≡ new_grants opened_by address }
+        ensures { result ≡ new_grants transaction_id address }
     {
         Kept {
-            opened_by,
+            transaction_id,
             address,
             permissions: ArrayVec::new(),
             channels: ArrayVec::new(),
@@ -66,7 +66,9 @@ impl<const P: usize, const C: usize> Kept<P, C> {
     pub(crate) fn is_permitted(&self, now: u128, ip: Ip) -> bool
         ensures { result ≡ list_any (is_permission now ip) self.now.permissions }
     {
-        self.permissions.iter().any(|p| ip == p.ip && now < p.until)
+        self.permissions
+            .iter()
+            .any(|p| ip == p.ip && now < p.expires_at)
     }
 
     fn channel_by_number(&self, now: u128, number: u16) -> Option<&Channel>
@@ -74,7 +76,7 @@ impl<const P: usize, const C: usize> Kept<P, C> {
     {
         self.channels
             .iter()
-            .find(|c| c.number == number && now < c.until)
+            .find(|c| c.number == number && now < c.expires_at)
     }
 
     fn channel_by_peer(&self, now: u128, peer: Endpoint) -> Option<&Channel>
@@ -82,7 +84,7 @@ impl<const P: usize, const C: usize> Kept<P, C> {
     {
         self.channels
             .iter()
-            .find(|c| c.peer == peer && now < c.until)
+            .find(|c| c.peer == peer && now < c.expires_at)
     }
 
     /// The peer that a channel is bound to.
@@ -110,7 +112,7 @@ impl<const P: usize, const C: usize> Kept<P, C> {
         ensures { result ≡ list_any (clashes now number peer) self.now.channels }
     {
         self.channels.iter().any(|c| {
-            now < c.until
+            now < c.expires_at
                 && (c.number == number && !(c.peer == peer)
                     || c.peer == peer && !(c.number == number))
         })

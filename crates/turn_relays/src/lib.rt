@@ -10,12 +10,14 @@
 mod binding;
 mod facts;
 mod granting;
+mod iter;
 mod kept;
 mod laws;
 mod permitting;
 mod relayed;
 mod relays;
 
+pub use iter::Iter;
 pub use laws::{list_follows_slots, lists_have_slots};
 pub use relayed::{Relayed, users_are_numbers};
 pub use relays::Relays;

@@ -16,7 +16,7 @@ const LASTING: u32 = 300;
 fn clear<const P: usize>(permissions: &mut ArrayVec<Permission, P>, now: u128, ip: Ip)
     ensures { permissions.new.items ≡ filter (is_other_permission now ip) permissions.old.items }
 {
-    permissions.retain(|p| !(ip == p.ip) && now < p.until);
+    permissions.retain(|p| !(ip == p.ip) && now < p.expires_at);
 }
 
 /// Inserts a permission in front, which lasts so many seconds, and removes those that have expired. Returns
@@ -42,7 +42,7 @@ pub(crate) fn put<const P: usize>(
         0,
         Permission {
             ip,
-            until: now + lasting as u128 * 1_000_000_000,
+            expires_at: now + lasting as u128 * 1_000_000_000,
         },
     );
     true

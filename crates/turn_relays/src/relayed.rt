@@ -18,13 +18,13 @@ pub struct Relayed {
     /// The user whose request opened it.
     pub user: UserId,
     /// The transaction ID of the request that opened it.
-    pub opened_by: u128,
+    pub transaction_id: u128,
     /// The number of its socket, above the numbers of all relayed addresses opened before.
     pub number: u64,
     /// The relayed transport address.
     pub address: Endpoint,
     /// When it expires, in nanoseconds of the caller's clock.
-    pub until: u128,
+    pub expires_at: u128,
 }
 
 /// Users and their numbers correspond one to one: two users are the same if and only if their numbers are
@@ -60,7 +60,7 @@ impl<const P: usize, const C: usize> Relays<P, C> {
     /// let address = Endpoint { port: 49_152, ..Endpoint::default() };
     /// let number = relays.open(key, user, 7, address, 600).unwrap_or(0);
     /// let slot = relays.find_by_key(&key).unwrap_or(0);
-    /// let relayed = Relayed { key, user, opened_by: 7, number, address, until: 600 };
+    /// let relayed = Relayed { key, user, transaction_id: 7, number, address, expires_at: 600 };
     /// assert_eq!(rt; relays.get(slot), Some(relayed));
     /// assert_eq!(rt; relays.get(1 - slot), None);
     /// assert_eq!(rt; relays.get(2), None);
@@ -74,10 +74,10 @@ impl<const P: usize, const C: usize> Relays<P, C> {
         Some(Relayed {
             key: entry.key,
             user: entry.user,
-            opened_by: kept.opened_by,
+            transaction_id: kept.transaction_id,
             number: entry.number,
             address: kept.address,
-            until: entry.deadline,
+            expires_at: entry.deadline,
         })
     }
 }

@@ -29,7 +29,7 @@ use turn_slots::{Entry, RelayKey, Slots, UserId};
 /// [`Relays::new`] takes all memory; no other call allocates. The cost of a call doesn't depend on how many
 /// relayed addresses there are. A look-up by client or user hashes it, and walks over one bucket of a hash
 /// table, which without the seed nobody can fill at will. To set when a relayed address ends, as an opening
-/// and an end do too, takes up to log2 of the capacity steps.
+/// and an end do too, takes up to log2 of the capacity steps. [`Relays::iter`] alone walks over all slots.
 ///
 /// ```
 /// use stun_endpoints::Endpoint;
@@ -266,34 +266,34 @@ impl<const P: usize, const C: usize> Relays<P, C> {
     /// Opens a relayed address with no permissions and no channels, and returns its number, which is above
     /// the numbers of all opened before.
     ///
-    /// `opened_by` is the transaction ID of the request, `address` the relayed transport address, and
-    /// `until` when it ends.
+    /// `transaction_id` is the transaction ID of the request, `address` the relayed transport address, and
+    /// `expires_at` when it ends.
     ///
     /// Returns `None`, and changes nothing, if no slot is free, or if 2^40 relayed addresses have been
     /// opened: then no number is left, and no other is ever opened.
     ///
     /// # Requires
     ///
-    /// No relayed address has the key, so that [`Relays::find_by_key`] returns `None`, and `until` is below
+    /// No relayed address has the key, so that [`Relays::find_by_key`] returns `None`, and `expires_at` is below
     /// `u128::MAX`.
     pub fn open(
         &mut self,
         key: RelayKey,
         user: UserId,
-        opened_by: u128,
+        transaction_id: u128,
         address: Endpoint,
-        until: u128,
+        expires_at: u128,
     ) -> Option<u64>
         requires key { Each self.old (λ r. is_for key.tuple key.family r ≡ false) }
-        requires until { until < never }
+        requires expires_at { expires_at < never }
         ensures some { IfSome result (λ number. (slot : ℕ) × Opens slot
-            (opened key (user_number user) opened_by address until number) self.old self.new) }
+            (opened key (user_number user) transaction_id address expires_at number) self.old self.new) }
         ensures none { IfNone result (IsClosed self.old × (self.new ≡ self.old)) }
     {
         are_halves(user);
-        let slot = self.slots.open(key, user, until)?;
+        let slot = self.slots.open(key, user, expires_at)?;
         let number = number_in(self.slots.entries(), slot);
-        self.kept[slot] = Some(Kept::new(opened_by, address));
+        self.kept[slot] = Some(Kept::new(transaction_id, address));
         self.next = number + 1;
         Some(number)
     }
@@ -333,9 +333,9 @@ impl<const P: usize, const C: usize> Relays<P, C> {
     /// Returns `None`, and changes nothing, if none has expired.
     pub fn end_due(&mut self) -> Option<u64>
         ensures some { IfSome result (λ number. (slot : ℕ) × (r : Relay) × Holds self.old slot r
-            × (r.number ≡ number) × (r.until ≤ self.old.clock)
+            × (r.number ≡ number) × (r.expires_at ≤ self.old.clock)
             × (self.new ≡ with_slot slot None self.old)) }
-        ensures none { IfNone result (Each self.old (λ r. self.old.clock < r.until)
+        ensures none { IfNone result (Each self.old (λ r. self.old.clock < r.expires_at)
             × (self.new ≡ self.old)) }
     {
         let (slot, entry) = self.slots.end_due(self.clock)?;
@@ -349,7 +349,7 @@ impl<const P: usize, const C: usize> Relays<P, C> {
     ///
     /// # Requires
     ///
-    /// `until` is below `u128::MAX`.
+    /// `expires_at` is below `u128::MAX`.
     ///
     /// ```
     /// use stun_endpoints::Endpoint;
@@ -364,12 +364,12 @@ impl<const P: usize, const C: usize> Relays<P, C> {
     /// relays.set_end(0, 400);
     /// assert_eq!(rt; relays.end_due(), number);
     /// ```
-    pub fn set_end(&mut self, slot: usize, until: u128)
-        requires { until < never }
+    pub fn set_end(&mut self, slot: usize, expires_at: u128)
+        requires { expires_at < never }
         ensures { MatchOption (at_slot self.old slot) (self.new ≡ self.old)
-            (λ r. self.new ≡ with_slot slot (Some (record r { until = until })) self.old) }
+            (λ r. self.new ≡ with_slot slot (Some (record r { expires_at = expires_at })) self.old) }
     {
-        self.slots.set_deadline(slot, until);
+        self.slots.set_deadline(slot, expires_at);
     }
 
     /// Ends the relayed address in a slot, with its permissions and channels, and returns its number. The

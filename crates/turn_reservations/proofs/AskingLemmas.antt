@@ -8,7 +8,7 @@ use Rattle.stun_endpoints.specs.declared.endpoints.FiveTuple.{FiveTuple}
 use Rattle.turn_machine.specs.Relays.{seconds, Relay, Setup, State, is_of}
 use Rattle.turn_machine.specs.Events.{Want, allocate, asks}
 use Rattle.turn_machine.specs.Rows.{has_any}
-use Rattle.turn_machine.specs.Reserving.{Reservation, reserves, has_place, can_reserve, inner, reservation}
+use Rattle.turn_machine.specs.Reserving.{Reservation, reserves, has_place, can_reserve, is_token, inner, reservation}
 use Rattle.turn_allocations.specs.declared.families.Families.{Families}
 use Rattle.turn_allocations.specs.declared.answer.Answer.{Answer}
 use Rattle.turn_allocations.specs.declared.request.Want.{Want as CodeWant}
@@ -52,17 +52,17 @@ pair_is is_open numbers family address true = refl
 pair_is is_open numbers family address false = refl
 
 pub pair_event : (setup : Setup) (s : State) (answer : Answer) (tuple : FiveTuple) (user : ℕ) (r : Reserve) (held : List Reservation) (next : Option Endpoint) (wants : Families CodeWant)
-    → next ≡ cond (can_reserve setup user r.next held) r.next None
+    → next ≡ cond (can_reserve setup user r.next r.token held) r.next None
     → wants_of (has_numbers s) (numbers_in answer) wants ≡ want_in (has_numbers s) (numbers_in answer) (family_number r.family) (cond (is_some next) r.address None) ∷ []
     → asks tuple user (allocate r.id r.lifetime (wants_of (has_numbers s) (numbers_in answer) wants)) ≡ inner setup s held (reserving s answer tuple user r)
 pair_event setup s answer tuple user r held next wants next_is wants_is =
     let is_open = has_numbers s in
     let numbers = numbers_in answer in
     let family = family_number r.family in
-    let can = can_reserve setup user r.next held in
+    let can = can_reserve setup user r.next r.token held in
     ap (λ (ws : List Want). asks tuple user (allocate r.id r.lifetime ws))
     (wants_is
-    ∙ (ap (λ (b : Bool). want_in is_open numbers family (cond b r.address None) ∷ []) (ap is_some next_is ∙ kept_next r.next (has_place setup user held))
+    ∙ (ap (λ (b : Bool). want_in is_open numbers family (cond b r.address None) ∷ []) (ap is_some next_is ∙ kept_next r.next (has_place setup user held && not (list_any (is_token r.token) held)))
     ∙ ap (λ (w : Want). w ∷ []) (pair_is is_open numbers family r.address can)))
 
 -- what is reserved, if the request opens an allocation
@@ -71,6 +71,6 @@ pub keeps : (clock : ℕ) (tuple : FiveTuple) (user : ℕ) (r : Reserve) (want :
     ≡ cond (o && (is_some next && place)) (reservation clock (reserves tuple user r.id r.lifetime want next r.token) next held) held
 keeps clock tuple user r want held family true place None = refl
 keeps clock tuple user r want held family true true (Some address) =
-    ap (λ (f : ℕ). record { token = r.token; user = user; tuple = tuple; id = r.id; family = f; address = address; until = clock + seconds 30 } ∷ held) (sym family)
+    ap (λ (f : ℕ). record { token = r.token; user = user; tuple = tuple; id = r.id; family = f; address = address; expires_at = clock + seconds 30 } ∷ held) (sym family)
 keeps clock tuple user r want held family true false (Some address) = refl
 keeps clock tuple user r want held family false place next = refl

@@ -1,3 +1,5 @@
 mod HeldLemmas
 mod SteppingLemmas
 mod AskingLemmas
+mod CallsLemmas
+mod DueLemmas

@@ -19,7 +19,7 @@ reservation_of r = record {
   id = r.id;
   family = family_number r.family;
   address = r.address;
-  until = r.until;
+  expires_at = r.expires_at;
 }
 
 -- the reservations, in so many places, and the tokens of those that expired in the last call

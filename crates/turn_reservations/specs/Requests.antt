@@ -41,7 +41,7 @@ with_reserved now tuple user r (Some address) held = record {
   id = r.id;
   family = family_number r.family;
   address = address;
-  until = now + seconds 30;
+  expires_at = now + seconds 30;
 } ∷ held
 
 -- An Allocate request with a token. The number of the reserved socket is what the answer shows

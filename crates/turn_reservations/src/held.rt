@@ -1,8 +1,11 @@
 //! The reserved sockets.
 
-ghost use Rattle.std.specs.Prelude.{◌≡◌, ◌+◌, ◌≤◌, ◌++◌, not, map, length, filter, find, nat_lt, vec_len, vec_capacity, option_copied, ◌==◌};
+ghost use Rattle.std.specs.Prelude.{◌≡◌, MatchOption, Some, None, [], min, ◌+◌, ◌≤◌, ◌++◌, not, map, length, filter, find, nat_lt, vec_len, vec_capacity, option_copied, ◌==◌};
 ghost use Rattle.turn_slots.specs.Users.{user_number};
-ghost use Rattle.turn_machine.specs.Reserving.{is_claim, is_reserved_by};
+ghost use Rattle.turn_machine.specs.Reserving.{is_claim, is_token, is_reserved_by};
+ghost use Rattle.std.specs.List.{fold, list_any};
+ghost use Rattle.std.specs.Option.{option_map_or};
+ghost use Rattle.turn_reservations.specs.Calls.{IsNextOver};
 ghost use Rattle.turn_reservations.specs.Held.{reservation_of};
 
 use crate::requests::Family;
@@ -27,7 +30,7 @@ pub(crate) struct Reserved {
     /// Its transport address.
     pub(crate) address: Endpoint,
     /// When it expires, in nanoseconds of the caller's clock.
-    pub(crate) until: u128,
+    pub(crate) expires_at: u128,
 }
 
 /// The reserved sockets, as many as there are places, and the tokens of those that expired in the last call.
@@ -58,22 +61,15 @@ impl Model for Held {
     } };
 }
 
-/// Whether two are one user.
-fn is_same(one: UserId, other: UserId) -> bool
-    ensures { result ≡ (user_number one == user_number other) }
-{
-    one.high == other.high && one.low == other.low
-}
-
 /// Appends the tokens of those that have expired.
 fn report(reserved: &[Reserved], now: u128, over: &mut Vec<u64>)
     requires { vec_len over.old + length reserved.now ≤ vec_capacity over.old }
     ensures tokens { over.new.items ≡ over.old.items
-        ++ map (λ r. r.token) (filter (λ r. not (nat_lt now r.until)) reserved.now) }
+        ++ map (λ r. r.token) (filter (λ r. not (nat_lt now r.expires_at)) reserved.now) }
     ensures capacity { vec_capacity over.new ≡ vec_capacity over.old }
 {
     for one in reserved {
-        if !(now < one.until) {
+        if !(now < one.expires_at) {
             over.push_reserved(one.token);
         }
     }
@@ -81,11 +77,11 @@ fn report(reserved: &[Reserved], now: u128, over: &mut Vec<u64>)
 
 /// Leaves what has not expired.
 fn leave(reserved: &mut Vec<Reserved>, now: u128)
-    ensures items { reserved.new.items ≡ filter (λ r. nat_lt now r.until) reserved.old.items }
+    ensures items { reserved.new.items ≡ filter (λ r. nat_lt now r.expires_at) reserved.old.items }
     ensures fewer { vec_len reserved.new ≤ vec_len reserved.old }
     ensures capacity { vec_capacity reserved.new ≡ vec_capacity reserved.old }
 {
-    reserved.retain(|one| now < one.until);
+    reserved.retain(|one| now < one.expires_at);
 }
 
 /// Leaves those with other tokens.
@@ -97,6 +93,33 @@ fn leave_others(reserved: &mut Vec<Reserved>, token: u64)
     reserved.retain(|one| !(one.token == token));
 }
 
+/// The earlier of two moments.
+fn sooner(due: Option<u128>, expires_at: u128) -> Option<u128>
+    ensures { result ≡ Some (option_map_or (λ d. min d expires_at) due expires_at) }
+{
+    match due {
+        Some(due) => Some(due.min(expires_at)),
+        None => Some(expires_at),
+    }
+}
+
+/// When the first of them expires.
+fn first_of(reserved: &[Reserved]) -> Option<u128>
+    ensures { result
+        ≡ fold (λ due r. Some (option_map_or (λ d. min d r.expires_at) due r.expires_at)) None reserved.now }
+{
+    reserved
+        .iter()
+        .fold(None, |due, one| sooner(due, one.expires_at))
+}
+
+/// Whether one has a token.
+fn has_token(reserved: &[Reserved], token: u64) -> bool
+    ensures { result ≡ list_any (λ r. is_token token (reservation_of r)) reserved.now }
+{
+    reserved.iter().any(|one| one.token == token)
+}
+
 /// Finds a user's with a token.
 fn find_claimed(reserved: &[Reserved], user: UserId, token: u64) -> Option<&Reserved>
     ensures { option_copied result
@@ -104,24 +127,29 @@ fn find_claimed(reserved: &[Reserved], user: UserId, token: u64) -> Option<&Rese
 {
     reserved
         .iter()
-        .find(|one| one.token == token && is_same(one.user, user))
+        .find(|one| one.token == token && one.user.is_same(user))
 }
 
 /// Finds what a request reserved.
-fn find_made<'a>(reserved: &'a [Reserved], tuple: &FiveTuple, id: u128) -> Option<&'a Reserved>
+fn find_made<'a>(
+    reserved: &'a [Reserved],
+    tuple: &FiveTuple,
+    user: UserId,
+    id: u128,
+) -> Option<&'a Reserved>
     ensures { option_copied result
-        ≡ find (λ r. is_reserved_by tuple.now id (reservation_of r)) reserved.now }
+        ≡ find (λ r. is_reserved_by tuple.now (user_number user) id (reservation_of r)) reserved.now }
 {
-    reserved
-        .iter()
-        .find(|one| *tuple == one.tuple && one.id == id)
+    reserved.iter().find(|one| *tuple == one.tuple && one.user.is_same(user) && one.id == id)
 }
 
 impl Held {
-    ghost use Rattle.std.specs.Prelude.{◌≡◌, ◌<◌, ◌≤◌, ◌∷◌, [], IfOk, not, map, length, filter, find, count_by, nat_lt, Some, None};
+    ghost use Rattle.std.specs.Prelude.{◌≡◌, MatchOption, ◌<◌, ◌≤◌, ◌∷◌, [], IfOk, not, map, length, filter, find, count_by, nat_lt, Some, None};
+    ghost use Rattle.std.specs.List.{list_any};
     ghost use Rattle.std.specs.Option.{option_map, option_map_or};
     ghost use Rattle.turn_slots.specs.Users.{user_number};
     ghost use Rattle.turn_machine.specs.Reserving.{is_held, is_users_held, is_claim, is_token, is_reserved_by};
+    ghost use Rattle.turn_reservations.specs.Calls.{IsNextOver};
     ghost use Rattle.turn_reservations.specs.Held.{reservation_of};
 
     /// Makes an empty list, with memory for `places` reservations and as many tokens.
@@ -146,6 +174,13 @@ impl Held {
         ensures { result.now ≡ self.now.over }
     {
         &self.over
+    }
+
+    /// When the next of them expires.
+    pub(crate) fn next_over(&self) -> Option<u128>
+        ensures { MatchOption result (self.now.held ≡ []) (λ due. IsNextOver due self.now.held) }
+    {
+        first_of(&self.reserved)
     }
 
     /// Removes what has expired, and keeps their tokens.
@@ -190,8 +225,15 @@ impl Held {
     {
         self.reserved
             .iter()
-            .filter(|one| is_same(one.user, user))
+            .filter(|one| one.user.is_same(user))
             .count()
+    }
+
+    /// Returns whether one has a token.
+    pub(crate) fn has_token(&self, token: u64) -> bool
+        ensures { result ≡ list_any (is_token token) self.now.held }
+    {
+        has_token(&self.reserved, token)
     }
 
     /// Returns a user's with a token.
@@ -206,11 +248,11 @@ impl Held {
     }
 
     /// Returns the token of what a request reserved.
-    pub(crate) fn token_of(&self, tuple: &FiveTuple, id: u128) -> Option<u64>
+    pub(crate) fn token_of(&self, tuple: &FiveTuple, user: UserId, id: u128) -> Option<u64>
         ensures { result ≡ option_map_or (λ r. Some r.token)
-            (find (is_reserved_by tuple.now id) self.now.held) None }
+            (find (is_reserved_by tuple.now (user_number user) id) self.now.held) None }
     {
-        match find_made(&self.reserved, tuple, id) {
+        match find_made(&self.reserved, tuple, user, id) {
             Some(found) => Some(found.token),
             None => None,
         }

@@ -6,9 +6,12 @@
 //! the state machine of `turn_machine` with reservations, and its contract is that equation.
 #![tactic(auto)]
 
+mod allocations;
 mod held;
+mod laws;
 mod requests;
 mod reserving;
 
+pub use allocations::ReservingAllocations;
+pub use laws::reserving_calls_are_a_run;
 pub use requests::{Claim, Family, Reply, Reserve};
-pub use reserving::ReservingAllocations;

@@ -1,6 +1,6 @@
 //! Allocate requests that reserve a port or claim one.
 
-ghost use Rattle.std.specs.Prelude.{◌≡◌, ℕ, Bool, true, false, [], ◌∷◌, ◌==◌, ◌||◌};
+ghost use Rattle.std.specs.Prelude.{◌≡◌, ℕ, Bool, true, [], ◌∷◌, ◌==◌, ◌||◌};
 ghost use Rattle.turn_allocations.specs.declared.families.Families.{Families};
 ghost use Rattle.turn_allocations.specs.Requests.{wants_of};
 ghost use Rattle.turn_reservations.specs.Held.{family_number};
@@ -33,7 +33,8 @@ pub struct Reserve {
     /// The relayed transport address of the socket to be reserved: the same IP address and the next higher
     /// port. `None` if there is none.
     pub next: Option<Endpoint>,
-    /// The RESERVATION-TOKEN, if the port is reserved: 64 random bits that nobody can guess.
+    /// The RESERVATION-TOKEN, if the port is reserved: 64 random bits that nobody can guess, and that no
+    /// reservation has.
     pub token: u64,
 }
 

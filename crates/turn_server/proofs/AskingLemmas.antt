@@ -1,12 +1,18 @@
--- That a nonce of the server's own matches the algorithms that are sent with it.
-use Rattle.std.proofs.Common.{◌≡◌, ℕ, Bool, true, false, List, [], ◌∷◌, Option, Some, None, if◌then◌else◌, refl, ap}
+-- What a request for too many peers is; and that a nonce of the server's own matches the algorithms that are sent with it.
+use Rattle.std.proofs.Common.{◌≡◌, ◌<◌, length, ℕ, Bool, true, false, List, [], ◌∷◌, Option, Some, None, if◌then◌else◌, refl, ap}
+use Rattle.std.proofs.lemmas.Bool.{lt-ltb}
 use Rattle.std.specs.Prelude.{MatchOption}
+use Rattle.stun_endpoints.specs.declared.endpoints.Endpoint.{Endpoint}
+use Rattle.turn_machine.specs.Events.{most_peers, permit_request, unfit}
 use Rattle.stun_values.specs.declared.algorithm.PasswordAlgorithmValue.TheVariants.{MD5, SHA256}
 use Rattle.stun_authentication.specs.declared.challenge.ChallengeError.{ChallengeError}
 use Rattle.stun_authentication.specs.declared.cookie.SecurityFeatures.{SecurityFeatures}
 use Rattle.stun_authentication.specs.Cookies.{promises, promises_algorithms, security_features}
 use Rattle.stun_authentication.specs.Refusing.{challenge_error}
 use Rattle.turn_server.specs.Access.{offered}
+
+pub many_refused : (peers : List Endpoint) → most_peers < length peers → permit_request peers ≡ unfit 508
+many_refused peers many = rw (lt-ltb most_peers (length peers) many) refl
 
 -- a nonce promises a list of algorithms exactly if one is offered
 list_matches : (offers promises : Bool) (nonce : List ℕ) → promises_algorithms nonce ≡ promises → promises ≡ offers

@@ -3,8 +3,14 @@ mod JudgingLemmas
 mod ReportingLemmas
 mod DatagramsLemmas
 mod RelayedLemmas
+mod ReservedLemmas
 mod StrangersLemmas
-mod ActingLemmas
 mod AnswersLemmas
 mod SpansLemmas
+mod ChannelsLemmas
 mod AskingLemmas
+mod OpeningLemmas
+mod ActingLemmas
+mod IcmpLemmas
+mod RecentLemmas
+mod RedirectingLemmas

@@ -1,108 +1,130 @@
 -- What goes to a peer is warranted by what came before.
-use Rattle.std.proofs.Common.{◌≡◌, ℕ, List, Option, Some, None, ◌⊎◌, inl, inr, ap, sym, subst, ◌∙◌}
+use Rattle.std.proofs.Common.{◌≡◌, ℕ, Bool, true, false, List, Option, Some, ◌⊎◌, inl, inr, ap, sym, subst, ◌∙◌}
 use Rattle.stun_grammar.specs.declared.integrity_algorithm.IntegrityAlgorithm.{IntegrityAlgorithm}
 use Rattle.stun_authentication.specs.Lookups.{UserKey}
 use Rattle.stun_endpoints.specs.declared.endpoints.Endpoint.{Endpoint}
 use Rattle.stun_endpoints.specs.declared.endpoints.FiveTuple.{FiveTuple}
-use Rattle.turn_table.specs.Allocations.{Allocation, Setup, State}
-use Rattle.turn_table.specs.Events.{Request, Event, sends, sends_on, Output, answers, to_peer, to_client, to_client_on, closes, nothing}
-use Rattle.turn_table.specs.Runs.{Timed, Happening, run, happening, history}
-use Rattle.turn_table.specs.Steps.{at, step}
-use Rattle.turn_table.specs.Warrants.{IsWarranted, IsRight}
-use Rattle.turn_server.specs.Acting.{sends_to, data_act, answer_act, acted, acts}
+use Rattle.turn_machine.specs.Relays.{Setup, Rules, State}
+use Rattle.turn_machine.specs.Events.{Event, sends, sends_on, Output, answers, to_peer, to_client, to_client_on, to_client_icmp, nothing}
+use Rattle.turn_machine.specs.Runs.{Timed, Happening, run, happening, history}
+use Rattle.turn_machine.specs.Steps.{step}
+use Rattle.turn_machine.specs.Times.{at}
+use Rattle.turn_machine.specs.Reserving.{OuterState, inner_run}
+use Rattle.turn_machine.specs.Warrants.{IsWarranted, ArePermitting, AreBinding, IsRight}
+use Rattle.turn_allocations.specs.declared.families.Families.{Families}
+use Rattle.turn_server.specs.Acting.{sends_to, data_act, answer_act, acted, act}
 use Rattle.turn_server.specs.Datagrams.{Moment, events_in, past, kept, clock_at, IsRelayed}
 use Rattle.turn_server.specs.Judging.{Site, Judged, dropped, binding, refused, unknown, sent, sent_on, asked, judge}
-use Rattle.turn_server.specs.Wanted.{request_with}
 use Rattle.turn_server.specs.Judgments.{IsSo}
-use Rattle.turn_server.proofs.DatagramsLemmas.{kept_is_run}
+use Rattle.turn_server.specs.Wanted.{token_of}
+use Rattle.turn_server.proofs.DatagramsLemmas.{Runs, state_is_run}
 use Rattle.turn_server.proofs.JudgingLemmas.{judgment_is_so}
 
--- what the table's law says
+-- what the machine's law says
 abbrev pub Right : Type 0
-Right = (setup : Setup) (earlier : List Timed) (timed : Timed) → let h = happening setup (run setup earlier) timed in IsRight setup (history setup earlier) h.moment h.event h.output
+Right = (setup : Setup) (earlier : List Timed) (timed : Timed) → let h = happening setup (run setup earlier) timed in IsRight setup (history setup earlier) h.moment h.rules h.event h.output
 
-data_is : (relay : ℕ) (peer : Endpoint) (bytes : List ℕ) (output : Output) → data_act output ≡ sends_to relay peer bytes → output ≡ to_peer relay peer bytes
-data_is relay peer bytes (answers tuple answer) e = absurd cc
-data_is relay peer bytes (to_peer from to held) e = cc
-data_is relay peer bytes (to_client tuple from held) e = absurd cc
-data_is relay peer bytes (to_client_on tuple number held) e = absurd cc
-data_is relay peer bytes (closes relays) e = absurd cc
-data_is relay peer bytes nothing e = absurd cc
+pub data_is : (number : ℕ) (peer : Endpoint) (dont_fragment : Bool) (bytes : List ℕ) (output : Output) → data_act output ≡ sends_to number peer dont_fragment bytes → output ≡ to_peer number peer dont_fragment bytes
+data_is number peer dont_fragment bytes (answers tuple answer) e = absurd cc
+data_is number peer dont_fragment bytes (to_peer from to fragmented held) e = cc
+data_is number peer dont_fragment bytes (to_client tuple from held) e = absurd cc
+data_is number peer dont_fragment bytes (to_client_on tuple channel held) e = absurd cc
+data_is number peer dont_fragment bytes (to_client_icmp tuple from icmp) e = absurd cc
+data_is number peer dont_fragment bytes nothing e = absurd cc
 
-pub no_data : {P : Type 0} (found : Option Allocation) (request : Request) (key : UserKey) (algorithm : IntegrityAlgorithm) (relay : ℕ) (peer : Endpoint) (bytes : List ℕ) (output : Output) → answer_act found request key algorithm output ≡ sends_to relay peer bytes → P
-no_data found request key algorithm relay peer bytes (answers tuple answer) e = absurd cc
-no_data found request key algorithm relay peer bytes (to_peer from to held) e = absurd cc
-no_data found request key algorithm relay peer bytes (to_client tuple from held) e = absurd cc
-no_data found request key algorithm relay peer bytes (to_client_on tuple number held) e = absurd cc
-no_data found request key algorithm relay peer bytes (closes relays) e = absurd cc
-no_data found request key algorithm relay peer bytes nothing e = absurd cc
+pub no_data : {P : Type 0} (next : ℕ) (claims : Option ℕ) (key : UserKey) (algorithm : IntegrityAlgorithm) (token : Option ℕ) (number : ℕ) (peer : Endpoint) (dont_fragment : Bool) (bytes : List ℕ) (output : Output) → answer_act next claims key algorithm token output ≡ sends_to number peer dont_fragment bytes → P
+no_data next claims key algorithm token number peer dont_fragment bytes (answers tuple answer) e = absurd cc
+no_data next claims key algorithm token number peer dont_fragment bytes (to_peer from to fragmented held) e = absurd cc
+no_data next claims key algorithm token number peer dont_fragment bytes (to_client tuple from held) e = absurd cc
+no_data next claims key algorithm token number peer dont_fragment bytes (to_client_on tuple channel held) e = absurd cc
+no_data next claims key algorithm token number peer dont_fragment bytes (to_client_icmp tuple from icmp) e = absurd cc
+no_data next claims key algorithm token number peer dont_fragment bytes nothing e = absurd cc
 
--- by an event of the table after these arrivals
-pub right_after : Right → (setup : Setup) (earlier : List Moment) (now : ℕ) (event : Event) → IsRight setup (past setup earlier) (clock_at setup earlier now) event (step setup (kept setup earlier) now event).output
-right_after right setup earlier now event =
-    subst (λ (s : State). IsRight setup (past setup earlier) (at now s).clock event (step setup s now event).output)
-    (sym (kept_is_run setup earlier)) (right setup (events_in setup earlier) (record { now = now; event = event }))
+-- by an event after these arrivals
+pub right_after : Runs → Right → (setup : Setup) (rules : Rules) (earlier : List Moment) (now : ℕ) (event : Event) → IsRight setup (past setup earlier) (clock_at setup earlier now) rules event (step setup rules (kept setup earlier).state now event).output
+right_after runs right setup rules earlier now event =
+    subst (λ (s : State). IsRight setup (past setup earlier) (at now s).clock rules event (step setup rules s now event).output)
+    (sym (state_is_run runs setup earlier)) (right setup (inner_run setup (events_in setup earlier)) (record { now = now; rules = rules; event = event }))
 
 -- by a Send indication
-abbrev Sent : Setup → List Happening → ℕ → FiveTuple → Endpoint → List ℕ → ℕ → Endpoint → List ℕ → Type 0
-Sent setup earlier now tuple to held relay peer bytes = ((to ≡ peer) × (held ≡ bytes)) × IsWarranted setup earlier now tuple relay peer None
+module _ (setup : Setup) (earlier : List Happening) (now : ℕ) (tuple : FiveTuple) (number : ℕ) (peer : Endpoint) (bytes : List ℕ) where
+  pub record Sent (to : Endpoint) (whole : Bool) (held : List ℕ) (fragmented : Bool) : Type 0 where
+    pub peer_is : to ≡ peer
+    pub bytes_are : held ≡ bytes
+    pub mark : fragmented ≡ whole
+    pub warranted : IsWarranted earlier now tuple number peer (ArePermitting setup tuple peer now)
 
-sent_right : (setup : Setup) (earlier : List Happening) (now : ℕ) (tuple : FiveTuple) (to : Endpoint) (held : List ℕ) (relay : ℕ) (peer : Endpoint) (bytes : List ℕ) (from : FiveTuple)
-    → (((sends tuple to held ≡ sends from peer bytes) × IsWarranted setup earlier now from relay peer None) ⊎ ((number : ℕ) × (sends tuple to held ≡ sends_on from number bytes) × IsWarranted setup earlier now from relay peer (Some number)))
-    → Sent setup earlier now tuple to held relay peer bytes
-sent_right setup earlier now tuple to held relay peer bytes from (inl it) =
-    let e = it.0 in
-    let same : from ≡ tuple = cc in
-    ((cc, cc), subst (λ (t : FiveTuple). IsWarranted setup earlier now t relay peer None) same it.1)
-sent_right setup earlier now tuple to held relay peer bytes from (inr it) =
-    let e = it.1 in absurd cc
+  pub sent_right : (to : Endpoint) (whole : Bool) (held : List ℕ) (fragmented : Bool) (from : FiveTuple)
+      → (((sends tuple to whole held ≡ sends from peer fragmented bytes) × (fragmented ≡ true → setup.supports_dont_fragment ≡ true) × IsWarranted earlier now from number peer (ArePermitting setup from peer now))
+      ⊎ ((channel : ℕ) × (sends tuple to whole held ≡ sends_on from channel bytes) × (fragmented ≡ false) × IsWarranted earlier now from number peer (AreBinding from channel peer now)))
+      → Sent to whole held fragmented
+  sent_right to whole held fragmented from (inl it) =
+      let e = it.0 in
+      let same : from ≡ tuple = cc in
+      record {
+        peer_is = cc;
+        bytes_are = cc;
+        mark = cc;
+        warranted = subst (λ (t : FiveTuple). IsWarranted earlier now t number peer (ArePermitting setup t peer now)) same it.2;
+      }
+  sent_right to whole held fragmented from (inr it) =
+      let e = it.1 in absurd cc
 
--- by a ChannelData message
-abbrev SentOn : Setup → List Happening → ℕ → FiveTuple → ℕ → List ℕ → ℕ → Endpoint → List ℕ → Type 0
-SentOn setup earlier now tuple channel held relay peer bytes = (held ≡ bytes) × IsWarranted setup earlier now tuple relay peer (Some channel)
+  -- by a ChannelData message
+  pub record SentOn (channel : ℕ) (held : List ℕ) (fragmented : Bool) : Type 0 where
+    pub bytes_are : held ≡ bytes
+    pub mark : fragmented ≡ false
+    pub warranted : IsWarranted earlier now tuple number peer (AreBinding tuple channel peer now)
 
-sent_on_right : (setup : Setup) (earlier : List Happening) (now : ℕ) (tuple : FiveTuple) (channel : ℕ) (held : List ℕ) (relay : ℕ) (peer : Endpoint) (bytes : List ℕ) (from : FiveTuple)
-    → (((sends_on tuple channel held ≡ sends from peer bytes) × IsWarranted setup earlier now from relay peer None) ⊎ ((number : ℕ) × (sends_on tuple channel held ≡ sends_on from number bytes) × IsWarranted setup earlier now from relay peer (Some number)))
-    → SentOn setup earlier now tuple channel held relay peer bytes
-sent_on_right setup earlier now tuple channel held relay peer bytes from (inl it) =
-    let e = it.0 in absurd cc
-sent_on_right setup earlier now tuple channel held relay peer bytes from (inr it) =
-    let e = it.1 in
-    let same : from ≡ tuple = cc in
-    let same_number : it.0 ≡ channel = cc in (
-      cc,
-      subst (λ (n : ℕ). IsWarranted setup earlier now tuple relay peer (Some n)) same_number
-          (subst (λ (t : FiveTuple). IsWarranted setup earlier now t relay peer (Some it.0)) same it.2),
-    )
+  pub sent_on_right : (channel : ℕ) (held : List ℕ) (fragmented : Bool) (from : FiveTuple)
+      → (((sends_on tuple channel held ≡ sends from peer fragmented bytes) × (fragmented ≡ true → setup.supports_dont_fragment ≡ true) × IsWarranted earlier now from number peer (ArePermitting setup from peer now))
+      ⊎ ((on : ℕ) × (sends_on tuple channel held ≡ sends_on from on bytes) × (fragmented ≡ false) × IsWarranted earlier now from number peer (AreBinding from on peer now)))
+      → SentOn channel held fragmented
+  sent_on_right channel held fragmented from (inl it) =
+      let e = it.0 in absurd cc
+  sent_on_right channel held fragmented from (inr it) =
+      let e = it.1 in
+      let same : from ≡ tuple = cc in
+      let same_channel : it.0 ≡ channel = cc in
+      record {
+        bytes_are = cc;
+        mark = it.2;
+        warranted = subst (λ (n : ℕ). IsWarranted earlier now tuple number peer (AreBinding tuple n peer now)) same_channel
+            (subst (λ (t : FiveTuple). IsWarranted earlier now t number peer (AreBinding t it.0 peer now)) same it.3);
+      }
 
 -- what is relayed for a datagram that is taken for this
-relayed_for : Right → (setup : Setup) (earlier : List Moment) (now : ℕ) (site : Site) (tuple : FiveTuple) (d : List ℕ) (new relay : ℕ) (peer : Endpoint) (bytes : List ℕ) (judged : Judged)
-    → IsSo site d judged → (acted setup tuple new (kept setup earlier) now judged).act ≡ sends_to relay peer bytes → IsRelayed setup earlier now tuple d relay peer bytes
-relayed_for right setup earlier now site tuple d new relay peer bytes dropped so e = absurd cc
-relayed_for right setup earlier now site tuple d new relay peer bytes binding so e = absurd cc
-relayed_for right setup earlier now site tuple d new relay peer bytes (refused refusal) so e = absurd cc
-relayed_for right setup earlier now site tuple d new relay peer bytes (unknown key algorithm) so e = absurd cc
-relayed_for right setup earlier now site tuple d new relay peer bytes (sent to held) so e =
-    let output = (step setup (kept setup earlier) now (sends tuple to held)).output in
-    let goes = subst (IsRight setup (past setup earlier) (clock_at setup earlier now) (sends tuple to held)) (data_is relay peer bytes output e) (right_after right setup earlier now (sends tuple to held)) in
-    let by = sent_right setup (past setup earlier) (clock_at setup earlier now) tuple to held relay peer bytes goes.0 goes.2 in
-    inl (so.0, so.1 ∙ ap (λ (p : Endpoint). Some (p, held)) by.0.0 ∙ ap (λ (b : List ℕ). Some (peer, b)) by.0.1, by.1)
-relayed_for right setup earlier now site tuple d new relay peer bytes (sent_on channel held) so e =
-    let output = (step setup (kept setup earlier) now (sends_on tuple channel held)).output in
-    let goes = subst (IsRight setup (past setup earlier) (clock_at setup earlier now) (sends_on tuple channel held)) (data_is relay peer bytes output e) (right_after right setup earlier now (sends_on tuple channel held)) in
-    let by = sent_on_right setup (past setup earlier) (clock_at setup earlier now) tuple channel held relay peer bytes goes.0 goes.2 in
-    inr (so.1 ∙ ap (λ (b : List ℕ). Some b) by.0, subst (λ (n : ℕ). IsWarranted setup (past setup earlier) (clock_at setup earlier now) tuple relay peer (Some n)) so.0 by.1)
-relayed_for right setup earlier now site tuple d new relay peer bytes (asked user wanted key algorithm) so e =
-    no_data _ (request_with new wanted) key algorithm relay peer bytes _ e
+module _ (runs : Runs) (right : Right) (setup : Setup) (rules : Rules) (earlier : List Moment) (now : ℕ) (site : Site) (tuple : FiveTuple) (numbers : Families ℕ) (d : List ℕ) (number : ℕ) (peer : Endpoint) (dont_fragment : Bool) (bytes : List ℕ) where
+  relayed_for : (judged : Judged) → IsSo setup.supports_dont_fragment site d judged → acted setup rules tuple numbers (kept setup earlier) now judged ≡ sends_to number peer dont_fragment bytes
+      → IsRelayed setup rules earlier now tuple d number peer dont_fragment bytes
+  relayed_for dropped so e = absurd cc
+  relayed_for binding so e = absurd cc
+  relayed_for (refused refusal) so e = absurd cc
+  relayed_for (unknown key algorithm) so e = absurd cc
+  relayed_for (sent to whole held) so e =
+      let clock = clock_at setup earlier now in
+      let event = sends tuple to whole held in
+      let output = (step setup rules (kept setup earlier).state now event).output in
+      let goes = subst (IsRight setup (past setup earlier) clock rules event) (data_is number peer dont_fragment bytes output e) (right_after runs right setup rules earlier now event) in
+      let by = sent_right setup (past setup earlier) clock tuple number peer bytes to whole held dont_fragment goes.0 goes.2 in
+      (goes.1, inl (so.0, so.1.0 ∙ ap (λ (p : Endpoint). Some (p, held)) by.peer_is ∙ ap (λ (b : List ℕ). Some (peer, b)) by.bytes_are, by.mark ∙ so.1.1, by.warranted))
+  relayed_for (sent_on channel held) so e =
+      let clock = clock_at setup earlier now in
+      let event = sends_on tuple channel held in
+      let output = (step setup rules (kept setup earlier).state now event).output in
+      let goes = subst (IsRight setup (past setup earlier) clock rules event) (data_is number peer dont_fragment bytes output e) (right_after runs right setup rules earlier now event) in
+      let by = sent_on_right setup (past setup earlier) clock tuple number peer bytes channel held dont_fragment goes.0 goes.2 in
+      (goes.1, inr (so.1 ∙ ap (λ (b : List ℕ). Some b) by.bytes_are, by.mark, subst (λ (n : ℕ). IsWarranted (past setup earlier) clock tuple number peer (AreBinding tuple n peer clock)) so.0 by.warranted))
+  relayed_for (asked user wanted key algorithm) so e = no_data (kept setup earlier).state.next (token_of wanted) key algorithm _ number peer dont_fragment bytes _ e
 
-pub relayed : Right → (setup : Setup) (earlier : List Moment) (now : ℕ) (site : Site) (tuple : FiveTuple) (d : List ℕ) (new relay : ℕ) (peer : Endpoint) (bytes : List ℕ)
-    → (acts site setup tuple new (kept setup earlier) now d).act ≡ sends_to relay peer bytes → IsRelayed setup earlier now tuple d relay peer bytes
-relayed right setup earlier now site tuple d new relay peer bytes e =
-    relayed_for right setup earlier now site tuple d new relay peer bytes (judge setup.last_channel site d) (judgment_is_so setup.last_channel site d) e
+  pub relayed : act site setup rules tuple numbers (kept setup earlier) now d ≡ sends_to number peer dont_fragment bytes
+      → IsRelayed setup rules earlier now tuple d number peer dont_fragment bytes
+  relayed e = relayed_for (judge setup.last_channel setup.supports_dont_fragment site d) (judgment_is_so setup.last_channel setup.supports_dont_fragment site d) e
 
 -- ---- What is due passes
 
-pub send_passes : (setup : Setup) (state : State) (now : ℕ) (site : Site) (tuple : FiveTuple) (new : ℕ) (d bytes : List ℕ) (relay : ℕ) (peer : Endpoint)
-    → judge setup.last_channel site d ≡ sent peer bytes → (step setup state now (sends tuple peer bytes)).output ≡ to_peer relay peer bytes → (acts site setup tuple new state now d).act ≡ sends_to relay peer bytes
-send_passes setup state now site tuple new d bytes relay peer judged out =
-    ap (λ (j : Judged). (acted setup tuple new state now j).act) judged ∙ ap data_act out
+pub send_passes : (setup : Setup) (rules : Rules) (h : OuterState) (now : ℕ) (site : Site) (tuple : FiveTuple) (numbers : Families ℕ) (d bytes : List ℕ) (number : ℕ) (peer : Endpoint) (whole : Bool)
+    → judge setup.last_channel setup.supports_dont_fragment site d ≡ sent peer whole bytes → (step setup rules h.state now (sends tuple peer whole bytes)).output ≡ to_peer number peer whole bytes
+    → act site setup rules tuple numbers h now d ≡ sends_to number peer whole bytes
+send_passes setup rules h now site tuple numbers d bytes number peer whole judged out =
+    ap (λ (j : Judged). acted setup rules tuple numbers h now j) judged ∙ ap data_act out

@@ -1,7 +1,6 @@
--- The offsets of the data of a datagram.
-use Rattle.std.proofs.Common.{◌≡◌, ℕ, ◌+◌, ◌-◌, ◌≤◌, List, length, take, drop, Option, None, Some, sym, ap, ◌∙◌, arith}
+-- The offsets of the data of a Send indication.
+use Rattle.std.proofs.Common.{◌≡◌, ℕ, ◌+◌, ◌-◌, ◌≤◌, List, length, take, drop, Option, None, Some, ap, ◌∙◌, arith}
 use Rattle.std.specs.Option.{option_map}
-use Rattle.std.proofs.lemmas.List.{length-take-le, length-drop}
 use Rattle.stun_grammar.specs.Chains.{Shown}
 use Rattle.stun_grammar.specs.Numbers.{IsBytes}
 use Rattle.stun_attributes.specs.Raw.{raw_value}
@@ -11,18 +10,7 @@ use Rattle.stun_types.proofs.StandsLemmas.{value_there}
 use Rattle.stun_authentication.specs.Identities.{value_of}
 use Rattle.turn_attrs.specs.Turn.{DATA}
 use Rattle.turn_server.specs.declared.action.Span.{Span}
-use Rattle.turn_server.specs.Spans.{StandsAt, IsData}
-
--- ---- On a channel
-
-pub on_channel : (d : List ℕ) (span : Span) → IsData d span → StandsAt span (take span.length (drop 4 d)) d
-on_channel d span is = record {
-  length_is = sym (length-take-le span.length (drop 4 d) (omega (arith, is.within, length-drop 4 d)));
-  stands = (λ i. take (is.at_is i + span.length - is.at_is i) (drop (is.at_is i) d))
-      ∙ (let size : 4 + span.length - 4 ≡ span.length = omega arith in λ i. take (size i) (drop 4 d));
-}
-
--- ---- In a Send indication
+use Rattle.turn_server.specs.Spans.{StandsAt}
 
 -- the value of the attribute that is found is there
 pub found_at : (d : List ℕ) (o : Option Shown) (item : ℕ × RawAttribute) (span : Span) → IsBytes d → nth d DATA 0 ≡ o → IsFound o (Some item) → span.at ≡ item.0 + 4 → span.length ≡ length (raw_value item.1)

@@ -1,5 +1,6 @@
 -- How a server authenticates its clients, and what it asks them for (RFC 8489, section 9.2).
-use Rattle.std.specs.Prelude.{ℕ, ◌/◌, List, [], ◌∷◌, Option, if◌then◌else◌}
+use Rattle.std.specs.Prelude.{◌≡◌, ℕ, ◌/◌, ◌≤◌, List, [], ◌∷◌, Option, Some, if◌then◌else◌}
+use Rattle.stun_grammar.specs.AttributeTypes.{NONCE}
 use Rattle.std.specs.Option.{option_map}
 use Rattle.std.specs.declared.net.socket_addr.SocketAddr.{SocketAddr}
 use Rattle.stun_attributes.specs.Texts.{text_bytes}
@@ -8,8 +9,9 @@ use Rattle.stun_values.specs.declared.algorithm.PasswordAlgorithmValue.{Password
 use Rattle.stun_values.specs.declared.algorithm.PasswordAlgorithmValue.TheVariants.{MD5, SHA256}
 use Rattle.stun_authentication.specs.declared.cookie.SecurityFeatures.{SecurityFeatures}
 use Rattle.stun_authentication.specs.Asking.{Asked, asked_for, listed}
+use Rattle.stun_authentication.specs.Identities.{value_of}
 use Rattle.stun_authentication.specs.Lookups.{Known}
-use Rattle.stun_authentication.specs.Nonces.{Minting, minted, minting_of, freshness, known_as}
+use Rattle.stun_authentication.specs.Nonces.{Minting, age, minted, minting_of, freshness, known_as, stated_time}
 use Rattle.stun_endpoints.specs.declared.endpoints.Endpoint.{Endpoint}
 use Rattle.turn_server.specs.declared.access.Access.{Access}
 use Rattle.stun_endpoints.specs.Conversions.{socket_of}
@@ -42,6 +44,13 @@ asked_by access now client =
     let minting = minting_of access.nonces in
     asked_for (text_bytes access.realm) (nonce_for minting now client)
     (listed (offered minting.features))
+
+-- d shows the nonce that was made for this client, at most as many seconds before as a nonce is valid
+pub record IsRecent (minting : Minting) (now : ℕ) (client : Endpoint) (d : List ℕ) : Type 0 where
+  pub nonce : List ℕ
+  pub shown : value_of d NONCE ≡ Some nonce
+  pub made : nonce ≡ minted minting (stated_time nonce) (address_value (socket_of client))
+  pub fresh : age now (stated_time nonce) ≤ minting.window
 
 -- the SOFTWARE of its responses
 abbrev pub software_in : Access → Option (List ℕ)

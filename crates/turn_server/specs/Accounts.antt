@@ -1,8 +1,8 @@
--- The number by which the table names a user.
+-- The number by which the allocations name a user.
 use Rattle.std.specs.Prelude.{ℕ, List, length, replicate, ◌==◌, if◌then◌else◌}
 use Rattle.stun_attributes.specs.Userhash.{user_hash}
 use Rattle.stun_authentication.specs.Identities.{Who, named, hashed}
-use Rattle.turn_table.specs.Users.{number_of}
+use Rattle.turn_slots.specs.Users.{number_of}
 
 -- the USERHASH of a user in a realm (RFC 8489, section 14.4), which has 32 bytes: of another length it is
 -- nobody's

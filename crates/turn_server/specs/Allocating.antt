@@ -1,16 +1,22 @@
--- Allocate requests (RFC 8656, section 7.2): what their bytes alone refuse, and the socket that they get.
-use Rattle.std.specs.Prelude.{ℕ, Bool, true, false, not, ◌&&◌, ◌||◌, List, Option, None, Some, is_some, unwrap_or, Result, Ok, Err, nat_le, ◌==◌, if◌then◌else◌}
-use Rattle.std.specs.Option.{option_map, option_map_or}
+-- Allocate requests (RFC 8656, section 7.2): what their bytes alone refuse, and what they ask for.
+use Rattle.std.specs.Prelude.{ℕ, Bool, false, not, ◌&&◌, ◌||◌, List, Option, None, Some, is_some, unwrap_or, nat_le, ◌==◌, if◌then◌else◌}
+use Rattle.std.specs.Option.{option_map, option_map_or, option_or}
 use Rattle.stun_grammar.specs.Headers.{id_field}
-use Rattle.stun_authentication.specs.Identities.{shows}
 use Rattle.turn_attrs.specs.Turn.{LIFETIME, REQUESTED_ADDRESS_FAMILY, EVEN_PORT, REQUESTED_TRANSPORT, RESERVATION_TOKEN, ADDITIONAL_ADDRESS_FAMILY}
 use Rattle.stun_endpoints.specs.declared.endpoints.Ip.{Ip}
 use Rattle.stun_endpoints.specs.declared.endpoints.Endpoint.{Endpoint}
 use Rattle.turn_peers.specs.Tunnels.{is_tunnelled}
+use Rattle.turn_machine.specs.Events.{unfit_allocate}
+use Rattle.turn_allocations.specs.declared.families.Families.{Families}
+use Rattle.turn_allocations.specs.declared.request.Want.{Want}
+use Rattle.turn_allocations.specs.declared.request.Want.TheVariants.{No, Unready, Ready as IsReady}
+use Rattle.turn_reservations.specs.declared.requests.Family.{Family}
+use Rattle.turn_reservations.specs.declared.requests.Family.TheVariants.{Ipv4, Ipv6}
+use Rattle.turn_reservations.specs.declared.requests.Reserve.{Reserve}
 use Rattle.turn_server.specs.declared.sockets.Ready.{Ready}
 use Rattle.turn_server.specs.declared.sockets.Sockets.{Sockets}
 use Rattle.turn_server.specs.declared.allocate.Options.{Options}
-use Rattle.turn_server.specs.Wanted.{Wanted, opening}
+use Rattle.turn_server.specs.Wanted.{Wanted, opening, reserving, claiming, other}
 use Rattle.turn_server.specs.Values.{malformed, number_in, byte_in}
 
 -- the protocol between the server and the peers
@@ -33,13 +39,13 @@ has_malformed d =
     || (malformed 8 RESERVATION_TOKEN d || malformed 4 ADDITIONAL_ADDRESS_FAMILY d)))
 
 -- LIFETIME in seconds; both families, 1 or 2; whether an even port is wished, and with the bit R the next
--- one too; and whether there is a token of a reservation
+-- one too; and the token of a reservation
 abbrev pub options_of : List ℕ → Options
 options_of d = record {
   lifetime = number_in LIFETIME d;
   family = byte_in REQUESTED_ADDRESS_FAMILY d;
   even = option_map (λ byte. nat_le 128 byte) (byte_in EVEN_PORT d);
-  token = shows RESERVATION_TOKEN d;
+  token = number_in RESERVATION_TOKEN d;
   additional = byte_in ADDITIONAL_ADDRESS_FAMILY d;
 }
 
@@ -47,52 +53,80 @@ options_of d = record {
 -- families; or the additional family isn't that of IPv6 (checks 5, 6, 8 and 9)
 abbrev pub conflict : Options → Bool
 conflict options =
-    (options.token
+    (is_some options.token
     && (is_some options.even || (is_some options.family || is_some options.additional)))
     || ((is_some options.family && is_some options.additional)
     || ((unwrap_or options.even false && is_some options.additional)
     || not (unwrap_or options.additional 2 == 2)))
 
--- ---- The socket (checks 5, 7 and 8)
+-- by the first row that applies: the wishes don't go together, or the family is neither IPv4 nor IPv6 (check 7)
+abbrev pub options_fault : Options → Option ℕ
+options_fault options =
+    if conflict options then Some 400 else (
+    if (unwrap_or options.family 1 == 1) || (unwrap_or options.family 1 == 2) then None else Some 440)
 
--- the sockets of a family that are ready: None if the server hasn't the family
-abbrev pub ready_of : Sockets → (family : ℕ) → Option Ready
-ready_of sockets family =
-    if family == 1 then sockets.ipv4 else (if family == 2 then sockets.ipv6 else None)
+-- ---- The sockets (checks 7, 8 and 9)
 
--- the one that is wished: a pair of ports is never ready, since this server reserves none
+-- the one that is wished, of any port or of an even one
 abbrev pub chosen : (even : Option Bool) → Ready → Option Endpoint
 chosen None ready = ready.any
-chosen (Some false) ready = ready.even
-chosen (Some true) ready = None
+chosen (Some both) ready = ready.even
 
--- without a wish it is IPv4. No token is valid, since this server reserves no ports. Of ADDITIONAL-ADDRESS-FAMILY
--- it allocates the IPv4 address alone (the end of check 9)
-abbrev pub socket_for : Sockets → Options → Result Endpoint ℕ
-socket_for sockets options =
-    if options.token then Err 508 else
-    option_map_or (λ ready. option_map_or (λ address. Ok address) (chosen options.even ready) (Err 508))
-    (ready_of sockets (unwrap_or options.family 1)) (Err 440)
+abbrev pub ready_for : (even : Option Bool) → Ready → Want
+ready_for even ready = option_map_or (λ address. IsReady address) (chosen even ready) Unready
+
+-- the family that the request names, or both with ADDITIONAL-ADDRESS-FAMILY; without either IPv4
+abbrev pub is_wanted : Options → (family : ℕ) → Bool
+is_wanted options family = is_some options.additional || (unwrap_or options.family 1 == family)
+
+abbrev pub want_of : Options → Ready → (family : ℕ) → Want
+want_of options ready family = if is_wanted options family then ready_for options.even ready else No
+
+abbrev pub wants_for : Sockets → Options → Families Want
+wants_for sockets options =
+    record { ipv4 = want_of options sockets.ipv4 1; ipv6 = want_of options sockets.ipv6 2 }
+
+-- with R, the pair of the family that the request names (check 8)
+abbrev pub family_of : Options → Family
+family_of options = if unwrap_or options.family 1 == 2 then Ipv6 else Ipv4
+
+abbrev pub ready_in : Family → Sockets → Ready
+ready_in Ipv4 sockets = sockets.ipv4
+ready_in Ipv6 sockets = sockets.ipv6
+
+abbrev pub reserve_for : Sockets → (id : ℕ) → Options → Reserve
+reserve_for sockets id options =
+    let pair = (ready_in (family_of options) sockets).pair in record {
+      id = id;
+      lifetime = options.lifetime;
+      family = family_of options;
+      address = option_map (λ p. p.even) pair;
+      next = option_map (λ p. p.next) pair;
+      token = sockets.token;
+    }
 
 -- ---- The request
 
--- the address of the socket that a request gets, or why it gets none, by the first row that applies
-abbrev pub wish_of : Sockets → List ℕ → Result Endpoint ℕ
-wish_of sockets d =
-    option_map_or (λ code. Err code)
-    (transport_fault d)
-    (if has_malformed d || conflict (options_of d) then Err 400
-    else socket_for sockets (options_of d))
+-- what the wishes ask for: the socket with a token, a pair of sockets, or others
+abbrev pub wanted_for : Sockets → (id : ℕ) → Options → Wanted
+wanted_for sockets id options =
+    option_map_or (λ token. claiming (record { id = id; lifetime = options.lifetime; token = token }))
+    options.token (
+    if unwrap_or options.even false then reserving (reserve_for sockets id options)
+    else opening id options.lifetime (wants_for sockets options))
+
+-- why its bytes alone refuse it, by the first row that applies
+abbrev pub bytes_fault : List ℕ → Option ℕ
+bytes_fault d =
+    option_or (transport_fault d)
+    (if has_malformed d then Some 400 else options_fault (options_of d))
 
 -- a client that comes by a tunnel is refused: what is relayed for it could go round for ever (section
 -- 21.4)
-abbrev pub wish_from : (client : Ip) → Sockets → List ℕ → Result Endpoint ℕ
-wish_from client sockets d = if is_tunnelled client then Err 403 else wish_of sockets d
-
-abbrev pub allocating : (id : ℕ) → (lifetime : Option ℕ) → Result Endpoint ℕ → Wanted
-allocating id lifetime (Ok address) = opening id lifetime (Ok address)
-allocating id lifetime (Err code) = opening id None (Err code)
+abbrev pub allocate_fault : (client : Ip) → List ℕ → Option ℕ
+allocate_fault client d = if is_tunnelled client then Some 403 else bytes_fault d
 
 abbrev pub allocate_of : (client : Ip) → Sockets → List ℕ → Wanted
 allocate_of client sockets d =
-    allocating (id_field d) (number_in LIFETIME d) (wish_from client sockets d)
+    option_map_or (λ code. other (unfit_allocate code)) (allocate_fault client d)
+    (wanted_for sockets (id_field d) (options_of d))

@@ -8,13 +8,13 @@ use Rattle.turn_attrs.specs.ChannelMessages.{channel_message}
 use Rattle.turn_attrs.specs.Heads.{padded_message, data_indication, channel_head_fault, data_head_fault}
 use Rattle.stun_endpoints.specs.declared.endpoints.Endpoint.{Endpoint}
 use Rattle.stun_endpoints.specs.declared.endpoints.FiveTuple.{FiveTuple}
-use Rattle.turn_table.specs.declared.reply.ToClient.{ToClient}
-use Rattle.turn_table.specs.Allocations.{Setup}
-use Rattle.turn_table.specs.Events.{arrives}
-use Rattle.turn_table.specs.Outputs.{receiving}
-use Rattle.turn_table.specs.Steps.{step}
+use Rattle.turn_machine.specs.Relays.{Setup, Rules}
+use Rattle.turn_machine.specs.Events.{arrives}
+use Rattle.turn_allocations.specs.declared.relaying.ToClient.{ToClient}
+use Rattle.turn_allocations.specs.Outputs.{receiving}
+use Rattle.turn_machine.specs.Reserving.{plain}
+use Rattle.turn_reservations.specs.Calls.{Reserving, IsOuterStep}
 use Rattle.turn_server.specs.declared.action.Delivery.{Delivery}
-use Rattle.turn_server.specs.Actions.{Kept}
 use Rattle.stun_endpoints.specs.Conversions.{socket_of}
 
 -- the length of the greatest message that the transport to a client takes. On a stream it is that of the
@@ -82,10 +82,10 @@ DeliversTo to n id peer old new result =
     DeliversIf (has_head to.tuple to.channel peer n (length old)) to n id peer old new result
 
 -- the server takes the datagram, whatever its bytes are; it is dropped, or goes to a client
-pub record Receives (setup : Setup) (now relay : ℕ) (peer : Endpoint) (n id : ℕ) (old new : Kept)
-    (result : Option Delivery) : Type 0 where
+pub record Receives (setup : Setup) (rules : Rules) (now number : ℕ) (peer : Endpoint) (n id : ℕ)
+    (old new : Reserving) (before after : List ℕ) (result : Option Delivery) : Type 0 where
   pub to : Option ToClient
-  pub stepped : (bytes : List ℕ) → step setup old.state now (arrives relay peer bytes)
-      ≡ record { state = new.state; output = receiving to peer bytes }
-  pub delivers : MatchOption to ((result ≡ None) × (new.slice ≡ old.slice))
-      (λ to. DeliversTo to n id (socket_of peer) old.slice new.slice result)
+  pub is_step : (bytes : List ℕ) → IsOuterStep setup rules old now (plain (arrives number peer bytes))
+      (receiving to peer bytes) None new
+  pub delivers : MatchOption to ((result ≡ None) × (after ≡ before))
+      (λ to. DeliversTo to n id (socket_of peer) before after result)

@@ -13,7 +13,7 @@ use Rattle.turn_server.specs.declared.judged.Judged.TheVariants.{Dropped, Bindin
 use Rattle.turn_server.specs.Judging.{Site, Judged, dropped, binding, refused, unknown, sent, sent_on, asked}
 use Rattle.turn_server.specs.Requests.{request_of}
 use Rattle.turn_server.specs.Spans.{StandsAt}
-use Rattle.turn_table.specs.Users.{user_number}
+use Rattle.turn_slots.specs.Users.{user_number}
 
 -- the user's key, and the algorithm that the answer is signed by
 pub record Signs (key : UserKey) (reply_algorithm : IntegrityAlgorithm) (accepted : Accepted)
@@ -32,7 +32,8 @@ Tells site d binding (Binding request) = IsRead d request
 Tells site d (refused refusal) (Refused request reported) = IsRead d request × (reported ≡ refusal)
 Tells site d (unknown key algorithm) (Unknown request accepted) =
     IsRead d request × Signs key algorithm accepted
-Tells site d (sent peer bytes) (Sent to span) = (to ≡ peer) × StandsAt span bytes d
+Tells site d (sent peer dont_fragment bytes) (Sent to whole span) =
+    (to ≡ peer) × ((whole ≡ dont_fragment) × StandsAt span bytes d)
 Tells site d (sent_on channel bytes) (SentOn on span) = (on ≡ channel) × StandsAt span bytes d
 Tells site d (asked user wanted key algorithm) (Asked request by accepted) =
     IsRead d request × ((user_number by ≡ user) × (Signs key algorithm accepted

@@ -1,13 +1,12 @@
--- What a request of each method asks the table for (RFC 8656, sections 7.2, 8.2, 10.2 and 12.2). What its
--- bytes alone refuse is unfit: the table looks first whose allocation it is.
-use Rattle.std.specs.Prelude.{ℕ, Bool, ◌||◌, List, take, Option, None, Some, length, option_and_then, nat_lt, ◌==◌, if◌then◌else◌}
+-- What a request of each method asks the allocations for (RFC 8656, sections 7.2, 8.2, 10.2 and 12.2). What
+-- its bytes alone refuse is unfit: the server looks first whose allocation it is.
+use Rattle.std.specs.Prelude.{ℕ, Bool, ◌||◌, List, take, Option, None, Some, length, option_and_then, ◌==◌, if◌then◌else◌}
 use Rattle.std.specs.Option.{option_map_or}
 use Rattle.stun_grammar.specs.Numbers.{number}
 use Rattle.stun_authentication.specs.Identities.{value_of}
 use Rattle.turn_attrs.specs.Turn.{CHANNEL_NUMBER, LIFETIME, REQUESTED_ADDRESS_FAMILY}
-use Rattle.turn_table.specs.Events.{Request as TableRequest, refresh, permit, bind, unfit}
+use Rattle.turn_machine.specs.Events.{Request, refresh, permit_request, bind, unfit}
 use Rattle.stun_endpoints.specs.declared.endpoints.Ip.{Ip}
-use Rattle.stun_endpoints.specs.declared.endpoints.Endpoint.{Endpoint}
 use Rattle.turn_server.specs.declared.sockets.Sockets.{Sockets}
 use Rattle.turn_server.specs.Addresses.{peer_of}
 use Rattle.turn_server.specs.Allocating.{allocate_of}
@@ -31,20 +30,13 @@ CHANNEL_BIND = 0x009
 
 -- ---- What they ask for
 
-abbrev pub refresh_of : List ℕ → TableRequest
+abbrev pub refresh_of : List ℕ → Request
 refresh_of d =
     if malformed 4 REQUESTED_ADDRESS_FAMILY d || malformed 4 LIFETIME d then unfit 400
     else refresh (byte_in REQUESTED_ADDRESS_FAMILY d) (number_in LIFETIME d)
 
--- one request permits at most 64 peers: more are more than this server has room for
-abbrev pub peers_max : ℕ
-peers_max = 64
-
-abbrev pub permitting : List Endpoint → TableRequest
-permitting peers = if nat_lt peers_max (length peers) then unfit 508 else permit peers
-
-abbrev pub permit_of : List ℕ → TableRequest
-permit_of d = if names_peers d then permitting (peers_of d) else unfit 400
+abbrev pub permit_of : List ℕ → Request
+permit_of d = if names_peers d then permit_request (peers_of d) else unfit 400
 
 -- the number in a CHANNEL-NUMBER is the high half of four bytes (section 18.1); whether it may be a
 -- channel's the table decides
@@ -54,7 +46,7 @@ channel_in value = if length value == 4 then Some (number (take 2 value)) else N
 abbrev pub channel_of : List ℕ → Option ℕ
 channel_of d = option_and_then channel_in (value_of d CHANNEL_NUMBER)
 
-abbrev pub bind_of : List ℕ → TableRequest
+abbrev pub bind_of : List ℕ → Request
 bind_of d =
     option_map_or (λ channel. option_map_or (bind channel) (peer_of d) (unfit 400)) (channel_of d)
     (unfit 400)
@@ -65,8 +57,13 @@ asks_table method =
     (method == ALLOCATE)
     || ((method == REFRESH) || ((method == CREATE_PERMISSION) || (method == CHANNEL_BIND)))
 
+-- a method other than CreatePermission
+abbrev pub any_but_permit : (client : Ip) → Sockets → (method : ℕ) → List ℕ → Wanted
+any_but_permit client sockets method d =
+    if method == ALLOCATE then allocate_of client sockets d
+    else (if method == REFRESH then other (refresh_of d) else other (bind_of d))
+
 abbrev pub request_of : (client : Ip) → Sockets → (method : ℕ) → List ℕ → Wanted
 request_of client sockets method d =
-    if method == ALLOCATE then allocate_of client sockets d else (
-    if method == REFRESH then other (refresh_of d) else (
-    if method == CREATE_PERMISSION then other (permit_of d) else other (bind_of d)))
+    if method == CREATE_PERMISSION then other (permit_of d)
+    else any_but_permit client sockets method d

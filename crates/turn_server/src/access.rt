@@ -5,6 +5,7 @@ ghost use Rattle.turn_server.specs.Access.{seconds_of};
 
 use std::net::SocketAddr;
 use stun_authentication::{NonceMaker, NoncesOf, Policy};
+use stun_endpoints::Endpoint;
 use stun_types::attribute::{PasswordAlgorithmValue, Realm, Software};
 
 /// How a server authenticates, and what its responses show of it.
@@ -22,6 +23,12 @@ pub struct Access {
     pub policy: Policy,
     /// The SOFTWARE of the responses to users' requests, if they have one.
     pub software: Option<Software>,
+    /// Another server, if there is one. An Allocate request that would be refused with 508 is refused with 300
+    /// (Try Alternate), and gets the address of that server in an ALTERNATE-SERVER, if it is of the client's
+    /// family, and the request has no RESERVATION-TOKEN (RFC 8489, section 10). The client uses the same
+    /// credentials there, and the same transport. No ALTERNATE-DOMAIN is sent: over TLS or DTLS that server's
+    /// certificate has to be for the same name.
+    pub alternate: Option<Endpoint>,
 }
 
 /// The whole seconds of a time in nanoseconds.

@@ -2,6 +2,7 @@
 
 use stun_endpoints::{Endpoint, FiveTuple};
 use stun_types::message::StunWriteError;
+use turn_allocations::Families;
 
 /// What a program does for a client's datagram.
 #[derive(Clone, Copy, Debug, PartialEq, Eq)]
@@ -11,10 +12,14 @@ pub enum Action {
     /// It sends a response, which is at the start of the buffer, to the client, from the address that
     /// the datagram came to.
     Response(Response),
-    /// It sends data of the datagram to a peer, from the socket that it keeps by the number `relay`.
+    /// It sends data of the datagram to a peer, from the socket that it keeps by this number, with the DF
+    /// bit if `dont_fragment` is set (RFC 8656, sections 14 and 15). For a client over UDP that holds from
+    /// IPv4 to IPv4: if one of both addresses is of IPv6, the program ignores `dont_fragment` (section 13).
+    /// [`fields_to_send`](crate::fields_to_send) has this rule, and those of other fields of the IP header.
     ToPeer {
-        relay: u64,
+        number: u64,
         peer: Endpoint,
+        dont_fragment: bool,
         data: Span,
     },
 }
@@ -48,16 +53,23 @@ pub struct Response {
     pub written: Result<usize, StunWriteError>,
     /// The code of an error response; `None` of a success response.
     pub code: Option<u16>,
-    /// The socket that the request opened an allocation with, if it did.
-    pub opened: Option<Opened>,
+    /// For each address family the socket that the request opened a relayed address with, if it did.
+    pub opened: Families<Option<Opened>>,
+    /// The token of the socket that the request reserved, if it did. The program keeps the socket of
+    /// [`Pair::next`](crate::Pair) in a map by this token until a response has the token in `claimed`, or
+    /// `TurnServer::over` returns it, and has another pair ready for the next call.
+    pub reserved: Option<u64>,
+    /// The token of the reserved socket that the request claimed, if it did: the program takes the socket
+    /// that it keeps by this token. It is the one in `opened`.
+    pub claimed: Option<u64>,
 }
 
-/// A socket that was ready and is an allocation's from now on. The program keeps it in a map by
-/// `number`, which no other allocation has until `TurnServer::poll` returns it, and has another one
-/// ready for the next call.
+/// A socket that was ready, or reserved, and is a relayed address's from now on. The program keeps it in a map by
+/// `number`, which no other ever has, until `TurnServer::ended` returns it, and has another one ready for
+/// the next call.
 #[derive(Clone, Copy, Debug, PartialEq, Eq)]
 pub struct Opened {
-    /// The number by which [`Action::ToPeer`], `TurnServer::on_peer_datagram` and `TurnServer::poll`
+    /// The number by which [`Action::ToPeer`], `TurnServer::on_peer_datagram` and `TurnServer::ended`
     /// name the socket.
     pub number: u64,
     /// The socket's address, as it was offered.
@@ -74,4 +86,13 @@ pub struct Delivery {
     pub head_length: u16,
     /// How many zeros follow it, at most 3.
     pub padding: u16,
+}
+
+/// Where news of an ICMP packet goes: a Data indication, which is at the start of the buffer.
+#[derive(Clone, Copy, Debug, PartialEq, Eq)]
+pub struct IcmpDelivery {
+    /// The client, the address that the message comes from, and the protocol.
+    pub to: FiveTuple,
+    /// How many bytes the message has, at most 56.
+    pub length: usize,
 }

@@ -1,39 +1,41 @@
-//! Allocate requests: what their bytes alone refuse, and the socket that they get (RFC 8656, section
-//! 7.2).
+//! Allocate requests: what their bytes alone refuse, and what they ask for (RFC 8656, section 7.2).
 
-ghost use Rattle.std.specs.Prelude.{◌≡◌, ◌||◌, true, false, None, Some, Ok, Err, MatchResult};
+ghost use Rattle.std.specs.Prelude.{◌≡◌, ℕ, true, false, None, Some, MatchResult};
 ghost use Rattle.stun_types.specs.Message.{message_bytes};
-ghost use Rattle.turn_attrs.specs.Turn.{LIFETIME};
-ghost use Rattle.stun_grammar.specs.Headers.{id_field};
-ghost use Rattle.turn_server.specs.Allocating.{transport_fault, has_malformed, options_of, chosen, wish_from, allocate_of};
-ghost use Rattle.turn_server.specs.Wanted.{opening};
-ghost use Rattle.turn_server.specs.Values.{number_in};
+ghost use Rattle.stun_endpoints.specs.declared.endpoints.FiveTuple.{FiveTuple};
+ghost use Rattle.turn_machine.specs.Reserving.{OuterState};
+ghost use Rattle.turn_allocations.specs.Answers.{code_of};
+ghost use Rattle.turn_allocations.specs.Requests.{numbers_in};
+ghost use Rattle.turn_allocations.specs.declared.answer.Answer.{Answer};
+ghost use Rattle.turn_allocations.specs.declared.answer.Refusal.TheVariants.{BadRequest};
+ghost use Rattle.turn_server.specs.Allocating.{transport_fault, has_malformed, options_of, ready_for, allocate_fault, allocate_of};
+ghost use Rattle.turn_server.specs.Wanted.{token_of, outer_of};
+ghost use Rattle.turn_server.specs.Wishes.{wished, claim_in};
 
-use crate::values::{byte_in, fixed_value, number_in};
+use crate::values::{byte_in, long_in, number_in};
+use crate::wish::Wish;
 use crate::{Ready, Sockets};
-use stun_endpoints::{Endpoint, Ip};
-use stun_types::attribute::ErrorCode;
+use stun_endpoints::Ip;
 use stun_types::message::Message;
+use turn_allocations::{Families, Refusal, Request, Want};
 use turn_attrs::attribute_types::{
     ADDITIONAL_ADDRESS_FAMILY, EVEN_PORT, LIFETIME, REQUESTED_ADDRESS_FAMILY, REQUESTED_TRANSPORT,
     RESERVATION_TOKEN,
 };
-use turn_attrs::error_codes::{
-    ADDRESS_FAMILY_NOT_SUPPORTED, FORBIDDEN, INSUFFICIENT_CAPACITY, UNSUPPORTED_TRANSPORT_PROTOCOL,
-};
 use turn_peers::is_tunnelled;
+use turn_reservations::{Claim, Family, Reserve};
 
 /// The number of UDP as a protocol.
 const UDP: u8 = 17;
 
 /// What a request may wish: a lifetime in seconds; both address families, 1 or 2; whether an even
-/// port, and if it is true the next one too; and whether it has the token of a reservation.
+/// port, and if it is true the next one too; and the token of a reservation.
 #[derive(Clone, Copy)]
 struct Options {
     lifetime: Option<u32>,
     family: Option<u8>,
     even: Option<bool>,
-    token: bool,
+    token: Option<u64>,
     additional: Option<u8>,
 }
 
@@ -41,15 +43,15 @@ struct Options {
 ///
 /// # Errors
 ///
-/// 400 or 442.
-fn check_transport(request: &Message<'_>) -> Result<(), u16>
+/// `BadRequest` or `UnsupportedTransportProtocol`.
+fn check_transport(request: &Message<'_>) -> Result<(), Refusal>
     ensures { MatchResult result (λ _. transport_fault (message_bytes request.now) ≡ None)
-        (λ code. transport_fault (message_bytes request.now) ≡ Some code) }
+        (λ refusal. transport_fault (message_bytes request.now) ≡ Some (code_of refusal)) }
 {
     match byte_in(request, REQUESTED_TRANSPORT, 4)? {
         Some(UDP) => Ok(()),
-        Some(_) => Err(UNSUPPORTED_TRANSPORT_PROTOCOL),
-        None => Err(ErrorCode::BAD_REQUEST),
+        Some(_) => Err(Refusal::UnsupportedTransportProtocol),
+        None => Err(Refusal::BadRequest),
     }
 }
 
@@ -57,57 +59,51 @@ fn check_transport(request: &Message<'_>) -> Result<(), u16>
 ///
 /// # Errors
 ///
-/// 400 if an attribute is malformed.
-fn read_options(request: &Message<'_>) -> Result<Options, u16>
+/// `BadRequest` if an attribute is malformed.
+fn read_options(request: &Message<'_>) -> Result<Options, Refusal>
     ensures { let d = message_bytes request.now in
         MatchResult result
         (λ options. (has_malformed d ≡ false) × (options ≡ options_of d))
-        (λ code. (has_malformed d ≡ true) × (code ≡ 400)) }
+        (λ refusal. (has_malformed d ≡ true) × (refusal ≡ BadRequest)) }
 {
     let lifetime = number_in(request, LIFETIME)?;
     let family = byte_in(request, REQUESTED_ADDRESS_FAMILY, 4)?;
     let even = byte_in(request, EVEN_PORT, 1)?;
-    let token = fixed_value(request, RESERVATION_TOKEN, 8)?;
+    let token = long_in(request, RESERVATION_TOKEN)?;
     let additional = byte_in(request, ADDITIONAL_ADDRESS_FAMILY, 4)?;
     Ok(Options {
         lifetime,
         family,
         even: even.map(|byte| byte >= 128),
-        token: token.is_some(),
+        token,
         additional,
     })
 }
 
-/// The address of the socket of a family that is wished.
-fn chosen(even: Option<bool>, ready: Ready) -> Option<Endpoint>
-    ensures { result ≡ chosen even ready }
+/// What a request asks for of a family, with an even port or without, of which these are ready.
+fn ready_for(even: Option<bool>, ready: Ready) -> Want
+    ensures { result ≡ ready_for even ready }
 {
-    match even {
+    let address = match even {
         None => ready.any,
-        Some(false) => ready.even,
-        Some(true) => None,
-    }
-}
-
-impl Sockets {
-    ghost use Rattle.std.specs.Prelude.{◌≡◌};
-    ghost use Rattle.turn_server.specs.Allocating.{ready_of};
-
-    /// The sockets of a family that are ready, if it is supported.
-    fn of_family(&self, family: u8) -> Option<Ready>
-        ensures { result ≡ ready_of self.now family }
-    {
-        match family {
-            1 => self.ipv4,
-            2 => self.ipv6,
-            _ => None,
-        }
+        Some(_) => ready.even,
+    };
+    match address {
+        Some(address) => Want::Ready(address),
+        None => Want::Unready,
     }
 }
 
 impl Options {
-    ghost use Rattle.std.specs.Prelude.{◌≡◌};
-    ghost use Rattle.turn_server.specs.Allocating.{conflict, socket_for};
+    ghost use Rattle.std.specs.Prelude.{◌≡◌, ℕ, None, Some, MatchResult};
+    ghost use Rattle.stun_endpoints.specs.declared.endpoints.FiveTuple.{FiveTuple};
+    ghost use Rattle.turn_machine.specs.Reserving.{OuterState};
+    ghost use Rattle.turn_allocations.specs.Answers.{code_of};
+    ghost use Rattle.turn_allocations.specs.Requests.{numbers_in};
+    ghost use Rattle.turn_allocations.specs.declared.answer.Answer.{Answer};
+    ghost use Rattle.turn_server.specs.Allocating.{conflict, is_wanted, options_fault, want_of, wants_for, family_of, reserve_for, wanted_for};
+    ghost use Rattle.turn_server.specs.Wanted.{token_of, outer_of};
+    ghost use Rattle.turn_server.specs.Wishes.{wished, claim_in};
 
     /// Whether the wishes don't go together.
     fn conflict(&self) -> bool
@@ -115,72 +111,141 @@ impl Options {
     {
         let other = self.even.is_some() || self.family.is_some() || self.additional.is_some();
         let reserves = self.even == Some(true);
-        (self.token && other)
+        (self.token.is_some() && other)
             || (self.additional.is_some() && (self.family.is_some() || reserves))
             || self.additional.unwrap_or(2) != 2
     }
 
-    /// The address of the socket that a request with these wishes gets.
+    /// Tests that the wishes go together, and that the family is IPv4 or IPv6.
     ///
     /// # Errors
     ///
-    /// 440 or 508.
-    fn socket(&self, sockets: &Sockets) -> Result<Endpoint, u16>
-        ensures { result ≡ socket_for sockets.now self.now }
+    /// `BadRequest` or `AddressFamilyNotSupported`.
+    fn check(&self) -> Result<(), Refusal>
+        ensures { MatchResult result (λ _. options_fault self.now ≡ None)
+            (λ refusal. options_fault self.now ≡ Some (code_of refusal)) }
     {
-        if self.token {
-            return Err(INSUFFICIENT_CAPACITY);
+        if self.conflict() {
+            return Err(Refusal::BadRequest);
         }
-        let Some(ready) = sockets.of_family(self.family.unwrap_or(1)) else {
-            return Err(ADDRESS_FAMILY_NOT_SUPPORTED);
+        match self.family.unwrap_or(1) {
+            1 | 2 => Ok(()),
+            _ => Err(Refusal::AddressFamilyNotSupported),
+        }
+    }
+
+    /// Whether a request with these wishes asks for a family.
+    fn is_wanted(&self, family: u8) -> bool
+        ensures { result ≡ is_wanted self.now family }
+    {
+        self.additional.is_some() || self.family.unwrap_or(1) == family
+    }
+
+    /// What a request with these wishes asks for of a family, of which these are ready.
+    fn want_of(&self, ready: Ready, family: u8) -> Want
+        ensures { result ≡ want_of self.now ready family }
+    {
+        if self.is_wanted(family) {
+            ready_for(self.even, ready)
+        } else {
+            Want::No
+        }
+    }
+
+    /// What a request with these wishes asks for.
+    fn wants(&self, sockets: &Sockets) -> Families<Want>
+        ensures { result ≡ wants_for sockets.now self.now }
+    {
+        Families {
+            ipv4: self.want_of(sockets.ipv4, 1),
+            ipv6: self.want_of(sockets.ipv6, 2),
+        }
+    }
+
+    /// The family of the relayed address.
+    fn family_of(&self) -> Family
+        ensures { result ≡ family_of self.now }
+    {
+        match self.family {
+            Some(2) => Family::Ipv6,
+            _ => Family::Ipv4,
+        }
+    }
+
+    /// What a request with these wishes reserves.
+    fn reserve(&self, id: u128, sockets: &Sockets) -> Reserve
+        ensures { result ≡ reserve_for sockets.now id self.now }
+    {
+        let family = self.family_of();
+        let ready = match family {
+            Family::Ipv4 => sockets.ipv4,
+            Family::Ipv6 => sockets.ipv6,
         };
-        match chosen(self.even, ready) {
-            Some(address) => Ok(address),
-            None => Err(INSUFFICIENT_CAPACITY),
+        Reserve {
+            id,
+            lifetime: self.lifetime,
+            family,
+            address: ready.pair.map(|pair| pair.even),
+            next: ready.pair.map(|pair| pair.next),
+            token: sockets.token,
         }
+    }
+
+    /// What a request with these wishes is.
+    fn wish(&self, id: u128, sockets: &Sockets) -> Wish
+        ensures outer { (tuple : FiveTuple) (user : ℕ) (h : OuterState) (answer : Answer)
+            → wished tuple user h answer result
+            ≡ outer_of tuple user h (numbers_in answer) (wanted_for sockets.now id self.now) }
+        ensures token { claim_in result ≡ token_of (wanted_for sockets.now id self.now) }
+    {
+        if let Some(token) = self.token {
+            return Wish::Claims(Claim {
+                id,
+                lifetime: self.lifetime,
+                token,
+            });
+        }
+        if self.even == Some(true) {
+            return Wish::Reserves(self.reserve(id, sockets));
+        }
+        Wish::Asks(Request::Allocate {
+            id,
+            lifetime: self.lifetime,
+            wants: self.wants(sockets),
+        })
     }
 }
 
-/// The lifetime that an Allocate request of a client wishes, in seconds, and the address of the socket
-/// that it gets.
+/// What an Allocate request of a client wishes.
 ///
 /// # Errors
 ///
-/// The code by which its client's address or its bytes refuse it, or by which there is no socket for
-/// it.
-fn read_wish(
-    request: &Message<'_>,
-    client: Ip,
-    sockets: &Sockets,
-) -> Result<(Option<u32>, Endpoint), u16>
+/// Why its client's address or its bytes refuse it.
+fn read_wishes(request: &Message<'_>, client: Ip) -> Result<Options, Refusal>
     ensures { let d = message_bytes request.now in
         MatchResult result
-        (λ wish. (wish.0 ≡ number_in LIFETIME d) × (wish_from client sockets.now d ≡ Ok wish.1))
-        (λ code. wish_from client sockets.now d ≡ Err code) }
+        (λ options. (allocate_fault client d ≡ None) × (options ≡ options_of d))
+        (λ refusal. allocate_fault client d ≡ Some (code_of refusal)) }
 {
     if is_tunnelled(client) {
-        return Err(FORBIDDEN);
+        return Err(Refusal::Forbidden);
     }
     check_transport(request)?;
     let options = read_options(request)?;
-    if options.conflict() {
-        return Err(ErrorCode::BAD_REQUEST);
-    }
-    let address = options.socket(sockets)?;
-    Ok((options.lifetime, address))
+    options.check()?;
+    Ok(options)
 }
 
-/// The lifetime and the socket's address of an Allocate request, or the code by which it gets none.
-pub(crate) fn read_allocate(
-    request: &Message<'_>,
-    client: Ip,
-    sockets: &Sockets,
-) -> (Option<u32>, Result<Endpoint, u16>)
-    ensures { let d = message_bytes request.now in
-        opening (id_field d) result.0 result.1 ≡ allocate_of client sockets.now d }
+/// What an Allocate request of a client asks for.
+pub(crate) fn read_allocate(request: &Message<'_>, client: Ip, sockets: &Sockets) -> Wish
+    ensures outer { (tuple : FiveTuple) (user : ℕ) (h : OuterState) (answer : Answer)
+        → wished tuple user h answer result ≡ outer_of tuple user h (numbers_in answer)
+        (allocate_of client sockets.now (message_bytes request.now)) }
+    ensures token { claim_in result
+        ≡ token_of (allocate_of client sockets.now (message_bytes request.now)) }
 {
-    match read_wish(request, client, sockets) {
-        Ok((lifetime, address)) => (lifetime, Ok(address)),
-        Err(code) => (None, Err(code)),
+    match read_wishes(request, client) {
+        Ok(options) => options.wish(u128::from(request.transaction_id()), sockets),
+        Err(refusal) => Wish::Asks(Request::UnfitAllocate(refusal)),
     }
 }

@@ -10,8 +10,8 @@ use std::net::SocketAddr;
 use stun_endpoints::{Endpoint, FiveTuple};
 use stun_framing::ChannelRange;
 use stun_types::message::{GREATEST_MESSAGE, TransactionId};
+use turn_allocations::ToClient;
 use turn_attrs::{Channel, write_channel_head, write_data_head};
-use turn_table::ToClient;
 
 /// The protocol number of UDP.
 const UDP: u8 = 17;

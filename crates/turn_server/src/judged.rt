@@ -10,7 +10,7 @@ use crate::Span;
 use stun_authentication::{Accepted, Refusal};
 use stun_endpoints::Endpoint;
 use stun_types::message::Message;
-use turn_table::UserId;
+use turn_slots::UserId;
 
 /// A request that was read.
 #[derive(Drop)]
@@ -31,9 +31,10 @@ pub(crate) enum Judged<'d> {
     /// A user's request that shows types that aren't comprehended: it is refused with 420, signed by
     /// the user's key.
     Unknown(Asking<'d>, Accepted<'d>),
-    /// The data of a Send indication, for a peer.
+    /// The data of a Send indication, for a peer, with the DF bit or without.
     Sent {
         peer: Endpoint,
+        dont_fragment: bool,
         data: Span,
     },
     /// The data of a ChannelData message.
@@ -41,7 +42,7 @@ pub(crate) enum Judged<'d> {
         channel: u16,
         data: Span,
     },
-    /// A user's request for the table. The answer is signed by the user's key.
+    /// A user's request for the allocations. The answer is signed by the user's key.
     Asked {
         request: Asking<'d>,
         user: UserId,

@@ -1,7 +1,8 @@
 //! What a client's datagram is: the data of a Send indication or of a ChannelData message, or a
 //! request, which is authenticated (RFC 8656, sections 5 and 12; RFC 8489, section 9.2.4).
 
-ghost use Rattle.std.specs.Prelude.{◌≡◌, ◌&&◌, ℕ, false, not, is_some, List, Option, IfOk, IsOk};
+ghost use Rattle.std.specs.Prelude.{◌≡◌, ◌&&◌, ℕ, true, false, not, is_some, take, List, Option, IfOk, IsOk};
+ghost use Rattle.std.specs.List.{list_all};
 ghost use Rattle.stun_grammar.specs.Parsing.{parse_fault};
 ghost use Rattle.stun_base.specs.MessageTypes.{class_of, method_of};
 ghost use Rattle.stun_base.specs.declared.message_class.MessageClass.TheVariants.{Request};
@@ -12,7 +13,8 @@ ghost use Rattle.stun_types.specs.Message.{message_bytes};
 ghost use Rattle.stun_authentication.specs.Answers.{Decision, Tells as Decides};
 ghost use Rattle.stun_authentication.specs.Identities.{Who, who};
 ghost use Rattle.stun_authentication.specs.Lookups.{Known, UserKey};
-ghost use Rattle.turn_server.specs.ChannelMessages.{last_channel};
+ghost use Rattle.stun_framing.specs.Channels.{begins_number};
+ghost use Rattle.turn_server.specs.ChannelMessages.{last_channel, range_to};
 ghost use Rattle.stun_attributes.specs.Texts.{text_bytes};
 ghost use Rattle.turn_server.specs.Access.{nonces_at};
 ghost use Rattle.turn_server.specs.Judging.{Site as Judging, channel_message, indicated, accepted_as, decided_as, requested, message, request_needs_key, message_needs_key, needs_key, judge};
@@ -21,12 +23,11 @@ ghost use Rattle.turn_server.specs.Sites.{site_of};
 ghost use Rattle.stun_endpoints.specs.declared.endpoints.Endpoint.{Endpoint};
 
 use crate::accounts::user_of;
-use crate::channel_message::{is_channel_byte, read_channel_data};
 use crate::comprehended::is_comprehended;
-use crate::indication::read_send;
+use crate::indication::{keeps_whole, read_send};
 use crate::judged::{Asking, Judged};
 use crate::request::asks_table;
-use crate::{Access, Site};
+use crate::{Access, Site, Span};
 use std::alloc::{AllocError, Global};
 use std::net::SocketAddr;
 use stun_authentication::{
@@ -36,42 +37,70 @@ use stun_authentication::{
 use stun_endpoints::Endpoint;
 use stun_types::message::{BINDING, Message, MessageClass, MessageHeader, Method};
 use turn_attrs::methods::SEND;
+use turn_attrs::{ChannelData, ChannelRange};
+
+/// Which numbers channels have.
+fn range_of(old_channels: bool) -> ChannelRange
+    ensures { result ≡ range_to (last_channel old_channels) }
+{
+    if old_channels {
+        ChannelRange::Rfc5766
+    } else {
+        ChannelRange::Rfc8656
+    }
+}
 
 /// What comes of a datagram that begins as a ChannelData message.
-#[tactic(auto, using(crate::proofs::SpansLemmas::on_channel))]
-fn judge_channel_message<'d>(datagram: &'d [u8]) -> Judged<'d>
+#[tactic(auto, using(crate::proofs::ChannelsLemmas::sent_on_channel, crate::proofs::ChannelsLemmas::is_cut))]
+fn judge_channel_message<'d>(datagram: &'d [u8], range: ChannelRange) -> Judged<'d>
+    requires { list_all (begins_number range) (take 1 datagram.now) ≡ true }
     ensures { (site : Judging) → Tells site datagram.now (channel_message datagram.now) result }
 {
-    match read_channel_data(datagram) {
-        Some((channel, data)) => Judged::SentOn { channel, data },
-        None => Judged::Dropped,
+    match ChannelData::from_prefix_in(datagram, range) {
+        Ok(message) => Judged::SentOn {
+            channel: message.channel().number(),
+            data: Span {
+                at: 4,
+                length: message.data().len(),
+            },
+        },
+        Err(_) => Judged::Dropped,
     }
 }
 
 /// What comes of an indication.
-fn judge_indication<'d>(message: &Message<'d>) -> Judged<'d>
+fn judge_indication<'d>(message: &Message<'d>, sets_df: bool) -> Judged<'d>
     ensures { (site : Judging) → let d = message_bytes message.now in
-        Tells site d (indicated (method_of (type_field d)) d) result }
+        Tells site d (indicated sets_df (method_of (type_field d)) d) result }
 {
     if !message.has_method(SEND) {
         return Judged::Dropped;
     }
-    match read_send(message) {
-        Some((peer, data)) => Judged::Sent { peer, data },
+    match read_send(message, sets_df) {
+        Some((peer, data)) => Judged::Sent {
+            peer,
+            dont_fragment: keeps_whole(message, sets_df),
+            data,
+        },
         None => Judged::Dropped,
     }
 }
 
 /// What comes of a request that was accepted.
-fn judge_accepted<'d>(request: &Message<'d>, access: &Access, accepted: Accepted<'d>) -> Judged<'d>
+fn judge_accepted<'d>(
+    request: &Message<'d>,
+    sets_df: bool,
+    access: &Access,
+    accepted: Accepted<'d>,
+) -> Judged<'d>
     requires { class_of (type_field (message_bytes request.now)) ≡ Request }
     ensures { (site : Judging) (user : Who) (key : UserKey) (algorithm : IntegrityAlgorithm)
         → site.realm ≡ text_bytes access.now.realm
         → who accepted.entry.user ≡ user → Signs key algorithm accepted.entry
         → let d = message_bytes request.now in
-        Tells site d (accepted_as site (method_of (type_field d)) d user key algorithm) result }
+        Tells site d (accepted_as sets_df site (method_of (type_field d)) d user key algorithm) result }
 {
-    if !is_comprehended(request) {
+    if !is_comprehended(request, sets_df) {
         return Judged::Unknown(Asking { message: *request }, accepted);
     }
     Judged::Asked {
@@ -84,6 +113,7 @@ fn judge_accepted<'d>(request: &Message<'d>, access: &Access, accepted: Accepted
 /// What comes of a request, by what its authentication decided.
 fn judge_decided<'d>(
     request: &Message<'d>,
+    sets_df: bool,
     access: &Access,
     authentication: Authentication<'d>,
 ) -> Judged<'d>
@@ -91,10 +121,10 @@ fn judge_decided<'d>(
     ensures { (site : Judging) (decision : Decision)
         → site.realm ≡ text_bytes access.now.realm → Decides decision authentication.entry
         → let d = message_bytes request.now in
-        Tells site d (decided_as site (method_of (type_field d)) d decision) result }
+        Tells site d (decided_as sets_df site (method_of (type_field d)) d decision) result }
 {
     match authentication {
-        Authentication::Accepted(accepted) => judge_accepted(request, access, accepted),
+        Authentication::Accepted(accepted) => judge_accepted(request, sets_df, access, accepted),
         Authentication::Refused(refusal) => Judged::Refused(Asking { message: *request }, refusal),
         Authentication::Discarded | Authentication::NotARequest => Judged::Dropped,
     }
@@ -110,13 +140,14 @@ fn judge_request<'d, K: LongTermKeys>(
     now: u64,
     client: Endpoint,
     request: &Message<'d>,
+    sets_df: bool,
     site: &Site<'_>,
     keys: &K,
 ) -> Result<Judged<'d>, AllocError>
     requires { class_of (type_field (message_bytes request.now)) ≡ Request }
     ensures judged { let d = message_bytes request.now in
         let site = site_of site.now.access.now site.now.sockets (K.key_of keys.now) client now in
-        IfOk result (Tells site d (requested site (method_of (type_field d)) d)) }
+        IfOk result (Tells site d (requested sets_df site (method_of (type_field d)) d)) }
     ensures memory { let d = message_bytes request.now in
         request_needs_key site.now.access.now.policy (nonces_at client now site.now.access.now)
         (method_of (type_field d)) d ≡ false → IsOk result }
@@ -137,7 +168,7 @@ fn judge_request<'d, K: LongTermKeys>(
         &nonces,
         keys,
     )?;
-    Ok(judge_decided(request, access, authentication))
+    Ok(judge_decided(request, sets_df, access, authentication))
 }
 
 /// What comes of a datagram that doesn't begin as a ChannelData message.
@@ -150,11 +181,12 @@ fn judge_message<'d, K: LongTermKeys>(
     now: u64,
     client: Endpoint,
     datagram: &'d [u8],
+    sets_df: bool,
     site: &Site<'_>,
     keys: &K,
 ) -> Result<Judged<'d>, AllocError>
     ensures judged { let site = site_of site.now.access.now site.now.sockets (K.key_of keys.now) client now in
-        IfOk result (Tells site datagram.now (message site datagram.now)) }
+        IfOk result (Tells site datagram.now (message sets_df site datagram.now)) }
     ensures memory { message_needs_key site.now.access.now.policy
         (nonces_at client now site.now.access.now) datagram.now ≡ false → IsOk result }
 {
@@ -162,8 +194,8 @@ fn judge_message<'d, K: LongTermKeys>(
         return Ok(Judged::Dropped);
     };
     match message.class() {
-        MessageClass::Request => judge_request(alloc, now, client, &message, site, keys),
-        MessageClass::Indication => Ok(judge_indication(&message)),
+        MessageClass::Request => judge_request(alloc, now, client, &message, sets_df, site, keys),
+        MessageClass::Indication => Ok(judge_indication(&message, sets_df)),
         MessageClass::Success | MessageClass::Error => Ok(Judged::Dropped),
     }
 }
@@ -199,7 +231,7 @@ fn message_needs_key<N: Nonces>(datagram: &[u8], policy: Policy, nonces: &N) -> 
 }
 
 /// Returns whether it depends on the key of its user what comes of a datagram, as [`judge`] says: it is
-/// a request to the table, and its long-term credentials are looked at
+/// a request for the allocations, and its long-term credentials are looked at
 /// (`stun_authentication::needs_key`). It reads no more than the header of anything else.
 pub(crate) fn needs_key<N: Nonces>(
     datagram: &[u8],
@@ -213,7 +245,7 @@ pub(crate) fn needs_key<N: Nonces>(
     let Some(first) = datagram.first() else {
         return false;
     };
-    !is_channel_byte(old_channels, *first) && message_needs_key(datagram, policy, nonces)
+    !range_of(old_channels).begins_with(*first) && message_needs_key(datagram, policy, nonces)
 }
 
 /// Judges a client's datagram: drops it, finds its data, or authenticates its request, as
@@ -228,19 +260,21 @@ pub(crate) fn judge<'d, K: LongTermKeys>(
     client: Endpoint,
     datagram: &'d [u8],
     old_channels: bool,
+    sets_df: bool,
     site: &Site<'_>,
     keys: &K,
 ) -> Result<Judged<'d>, AllocError>
     ensures judged { let site = site_of site.now.access.now site.now.sockets (K.key_of keys.now) client now in
-        IfOk result (Tells site datagram.now (judge (last_channel old_channels) site datagram.now)) }
+        IfOk result (Tells site datagram.now (judge (last_channel old_channels) sets_df site datagram.now)) }
     ensures memory { needs_key (last_channel old_channels) site.now.access.now.policy
         (nonces_at client now site.now.access.now) datagram.now ≡ false → IsOk result }
 {
     let Some(first) = datagram.first() else {
         return Ok(Judged::Dropped);
     };
-    if is_channel_byte(old_channels, *first) {
-        return Ok(judge_channel_message(datagram));
+    let range = range_of(old_channels);
+    if range.begins_with(*first) {
+        return Ok(judge_channel_message(datagram, range));
     }
-    judge_message(alloc, now, client, datagram, site, keys)
+    judge_message(alloc, now, client, datagram, sets_df, site, keys)
 }

@@ -2,18 +2,18 @@
 
 ghost use Rattle.std.specs.Prelude.{◌≡◌, ◌<◌, true, length, MatchOption, MatchResult};
 ghost use Rattle.stun_types.specs.Message.{message_bytes};
-ghost use Rattle.turn_table.specs.Events.{permit, unfit};
+ghost use Rattle.turn_machine.specs.Events.{most_peers, permit_request, unfit};
+ghost use Rattle.turn_allocations.specs.Answers.{code_of};
 ghost use Rattle.turn_server.specs.Peers.{names_peers, peers_of};
-ghost use Rattle.turn_server.specs.Requests.{peers_max, permit_of};
+ghost use Rattle.turn_server.specs.Requests.{permit_of};
 
 use crate::addresses::read_peer;
 use arrayvec::ArrayVec;
 use stun_endpoints::Endpoint;
-use stun_types::attribute::ErrorCode;
 use stun_types::message::Message;
 use stun_values::read_address;
+use turn_allocations::Refusal;
 use turn_attrs::attribute_types::XOR_PEER_ADDRESS;
-use turn_attrs::error_codes::INSUFFICIENT_CAPACITY;
 
 /// The most peers that a CreatePermission request may name: one that names more is refused with 508.
 pub const PEERS: usize = 64;
@@ -40,7 +40,7 @@ fn names_peers(request: &Message<'_>) -> bool
 fn collected(request: &Message<'_>) -> Option<ArrayVec<Endpoint, PEERS>>
     requires { names_peers (message_bytes request.now) ≡ true }
     ensures { let all = peers_of (message_bytes request.now) in
-        MatchOption result (peers_max < length all) (λ peers. peers.items ≡ all) }
+        MatchOption result (most_peers < length all) (λ peers. peers.items ≡ all) }
 {
     let id = request.transaction_id();
     let mut peers = ArrayVec::new();
@@ -62,14 +62,16 @@ fn collected(request: &Message<'_>) -> Option<ArrayVec<Endpoint, PEERS>>
 ///
 /// # Errors
 ///
-/// 400 if it names none, or one by a malformed value; 508 if it names more than [`PEERS`].
-#[tactic(auto, using(crate::proofs::ActingLemmas::few_permitted, crate::proofs::ActingLemmas::many_refused))]
-pub(crate) fn peers_of(request: &Message<'_>) -> Result<ArrayVec<Endpoint, PEERS>, u16>
+/// `BadRequest` if it names none, or one by a malformed value; `InsufficientCapacity` if it names more
+/// than [`PEERS`].
+#[tactic(auto, using(crate::proofs::AskingLemmas::many_refused))]
+pub(crate) fn peers_of(request: &Message<'_>) -> Result<ArrayVec<Endpoint, PEERS>, Refusal>
     ensures { let d = message_bytes request.now in
-        MatchResult result (λ peers. permit_of d ≡ permit peers.items) (λ code. permit_of d ≡ unfit code) }
+        MatchResult result (λ peers. permit_of d ≡ permit_request peers.items)
+        (λ refusal. permit_of d ≡ unfit (code_of refusal)) }
 {
     if !names_peers(request) {
-        return Err(ErrorCode::BAD_REQUEST);
+        return Err(Refusal::BadRequest);
     }
-    collected(request).ok_or(INSUFFICIENT_CAPACITY)
+    collected(request).ok_or(Refusal::InsufficientCapacity)
 }

@@ -1,32 +1,45 @@
-//! What a request of each method asks the table for (RFC 8656, sections 7.2, 8.2, 10.2 and 12.2).
+//! What a request of each method asks the allocations for (RFC 8656, sections 7.2, 8.2, 10.2 and 12.2).
 
-ghost use Rattle.std.specs.Prelude.{◌≡◌, ◌==◌, MatchResult, if◌then◌else◌};
+ghost use Rattle.std.specs.Prelude.{◌≡◌, ℕ, MatchResult};
 ghost use Rattle.stun_grammar.specs.Headers.{type_field};
 ghost use Rattle.stun_base.specs.MessageTypes.{method_of};
 ghost use Rattle.stun_types.specs.Message.{message_bytes};
-ghost use Rattle.turn_table.specs.Events.{refresh, unfit};
-ghost use Rattle.turn_table.specs.Requests.{asked};
-ghost use Rattle.turn_server.specs.Requests.{refresh_of, channel_of, bind_of, asks_table};
+ghost use Rattle.turn_machine.specs.Relays.{State};
+ghost use Rattle.turn_machine.specs.Events.{refresh, unfit};
+ghost use Rattle.turn_machine.specs.Reserving.{OuterState};
+ghost use Rattle.stun_endpoints.specs.declared.endpoints.FiveTuple.{FiveTuple};
+ghost use Rattle.turn_allocations.specs.Answers.{code_of};
+ghost use Rattle.turn_allocations.specs.Requests.{asked, numbers_in};
+ghost use Rattle.turn_allocations.specs.declared.answer.Answer.{Answer};
+ghost use Rattle.turn_server.specs.Requests.{refresh_of, channel_of, bind_of, asks_table, any_but_permit};
+ghost use Rattle.turn_server.specs.Wanted.{token_of, outer_of};
+ghost use Rattle.turn_server.specs.Wishes.{wished, claim_in};
 
+use crate::Sockets;
 use crate::addresses::peer_of;
-use crate::values::{byte_in, number_in, value_of};
+use crate::allocate::read_allocate;
+use crate::values::{byte_in, number_in};
+use crate::wish::Wish;
 use byteorder::{BigEndian, ByteOrder};
-use stun_types::attribute::ErrorCode;
+use stun_authentication::attributes::value_of;
+use stun_endpoints::Ip;
+use stun_types::attribute::AttributeStaticType;
 use stun_types::message::{Message, Method};
-use turn_attrs::attribute_types::{CHANNEL_NUMBER, LIFETIME, REQUESTED_ADDRESS_FAMILY};
+use turn_allocations::{Refusal, Request};
+use turn_attrs::ChannelNumber;
+use turn_attrs::attribute_types::{LIFETIME, REQUESTED_ADDRESS_FAMILY};
 use turn_attrs::methods::{ALLOCATE, CHANNEL_BIND, CREATE_PERMISSION, REFRESH};
-use turn_table::Request;
 
 /// The address family and the lifetime of a Refresh request.
 ///
 /// # Errors
 ///
-/// 400 if either is malformed.
-fn refresh_fields(request: &Message<'_>) -> Result<(Option<u8>, Option<u32>), u16>
+/// `BadRequest` if either is malformed.
+fn refresh_fields(request: &Message<'_>) -> Result<(Option<u8>, Option<u32>), Refusal>
     ensures { let d = message_bytes request.now in
         MatchResult result
         (λ fields. refresh_of d ≡ refresh fields.0 fields.1)
-        (λ code. refresh_of d ≡ unfit code) }
+        (λ refusal. refresh_of d ≡ unfit (code_of refusal)) }
 {
     let family = byte_in(request, REQUESTED_ADDRESS_FAMILY, 4)?;
     let lifetime = number_in(request, LIFETIME)?;
@@ -35,11 +48,12 @@ fn refresh_fields(request: &Message<'_>) -> Result<(Option<u8>, Option<u32>), u1
 
 /// What a Refresh request asks for.
 fn read_refresh(request: &Message<'_>) -> Request<'static>
-    ensures { asked result ≡ refresh_of (message_bytes request.now) }
+    ensures { (state : State) (answer : Answer)
+        → asked state answer result ≡ refresh_of (message_bytes request.now) }
 {
     match refresh_fields(request) {
-        Ok((family, lifetime)) => Request::Refresh(family, lifetime),
-        Err(code) => Request::Unfit(code),
+        Ok((family, lifetime)) => Request::Refresh { family, lifetime },
+        Err(refusal) => Request::Unfit(refusal),
     }
 }
 
@@ -47,7 +61,7 @@ fn read_refresh(request: &Message<'_>) -> Request<'static>
 fn channel_of(request: &Message<'_>) -> Option<u16>
     ensures { result ≡ channel_of (message_bytes request.now) }
 {
-    let value = value_of(request, CHANNEL_NUMBER)?;
+    let value = value_of(request, ChannelNumber::TYPE)?;
     if value.len() != 4 {
         return None;
     }
@@ -56,15 +70,16 @@ fn channel_of(request: &Message<'_>) -> Option<u16>
 
 /// What a ChannelBind request asks for.
 fn read_bind(request: &Message<'_>) -> Request<'static>
-    ensures { asked result ≡ bind_of (message_bytes request.now) }
+    ensures { (state : State) (answer : Answer)
+        → asked state answer result ≡ bind_of (message_bytes request.now) }
 {
     match (channel_of(request), peer_of(request)) {
-        (Some(channel), Some(peer)) => Request::ChannelBind(channel, peer),
-        _ => Request::Unfit(ErrorCode::BAD_REQUEST),
+        (Some(number), Some(peer)) => Request::ChannelBind { number, peer },
+        _ => Request::Unfit(Refusal::BadRequest),
     }
 }
 
-/// Whether a request of a method asks the table for something.
+/// Whether a request of a method asks the allocations for something.
 pub(crate) fn asks_table(method: Method) -> bool
     ensures { result ≡ asks_table method }
 {
@@ -74,13 +89,18 @@ pub(crate) fn asks_table(method: Method) -> bool
     )
 }
 
-/// What a Refresh or a ChannelBind request asks the table for.
-pub(crate) fn read_request(request: &Message<'_>) -> Request<'static>
-    ensures { let d = message_bytes request.now in
-        asked result ≡ (if method_of (type_field d) == 0x004 then refresh_of d else bind_of d) }
+/// What a client's request asks for, of a method other than CreatePermission.
+pub(crate) fn read_request(request: &Message<'_>, client: Ip, sockets: &Sockets) -> Wish
+    ensures outer { let d = message_bytes request.now in
+        (tuple : FiveTuple) (user : ℕ) (h : OuterState) (answer : Answer)
+        → wished tuple user h answer result ≡ outer_of tuple user h (numbers_in answer)
+        (any_but_permit client sockets.now (method_of (type_field d)) d) }
+    ensures token { let d = message_bytes request.now in claim_in result
+        ≡ token_of (any_but_permit client sockets.now (method_of (type_field d)) d) }
 {
     match request.method() {
-        REFRESH => read_refresh(request),
-        _ => read_bind(request),
+        ALLOCATE => read_allocate(request, client, sockets),
+        REFRESH => Wish::Asks(read_refresh(request)),
+        _ => Wish::Asks(read_bind(request)),
     }
 }

@@ -1,6 +1,6 @@
 //! The responses to a client, each written at the start of a buffer.
 
-ghost use Rattle.std.specs.Prelude.{◌≡◌, None, Some, length, true};
+ghost use Rattle.std.specs.Prelude.{◌≡◌, None, Some, length, true, if◌then◌else◌};
 ghost use Rattle.stun_base.specs.MessageTypes.{class_of};
 ghost use Rattle.stun_base.specs.declared.message_class.MessageClass.TheVariants.{Request};
 ghost use Rattle.stun_grammar.specs.declared.integrity_algorithm.IntegrityAlgorithm.{IntegrityAlgorithm};
@@ -12,16 +12,20 @@ ghost use Rattle.stun_authentication.specs.Lookups.{UserKey};
 ghost use Rattle.stun_authentication.specs.Refusing.{refusal_of, refusal_sizes};
 ghost use Rattle.stun_authentication.specs.Writing.{no_room};
 ghost use Rattle.stun_server.specs.InSlice.{written_in, slice_after};
-ghost use Rattle.turn_table.specs.Outputs.{answer_of, opened_in};
+ghost use Rattle.turn_allocations.specs.Answers.{answer_of};
 ghost use Rattle.turn_server.specs.Access.{asked_by, software_in};
-ghost use Rattle.turn_server.specs.Answers.{answer_text, answer_refusal, unknown_text, unknown_refusal};
+ghost use Rattle.turn_server.specs.Acting.{none_used, opened_in, opened_one, is_opened, used_by};
+ghost use Rattle.turn_server.specs.Answers.{answer_text, answer_refusal, redirect_text, redirect_refusal, unknown_text, unknown_refusal};
 ghost use Rattle.turn_server.specs.Reporting.{Signs};
-ghost use Rattle.turn_server.specs.Responses.{IsWritten, IsResponse, binding_owed, refusal_owed, types_owed, answer_owed, answer_code, opened_with};
+ghost use Rattle.turn_server.specs.Responses.{IsWritten, IsResponse, binding_owed, refusal_owed, types_owed, own_owed, redirect_owed, answer_owed, answer_code};
 
 use crate::access::{Access, seconds};
 use crate::answers::write_answer;
+use crate::comprehended::comprehended_by;
+use crate::redirecting::{alternate_for, write_redirect};
+use crate::serving::Served;
 use crate::unknown::write_unknown;
-use crate::{COMPREHENDED, Opened, Response};
+use crate::{Opened, Response};
 use std::alloc::Global;
 use std::net::SocketAddr;
 use stun_authentication::{
@@ -32,10 +36,17 @@ use stun_server::Reply as BindingReply;
 use stun_types::attribute::ErrorCode;
 use stun_types::message::{Message, MessageWriteVec, StunWriteError};
 use stun_types::prelude::*;
-use turn_table::Reply;
+use turn_allocations::{Answer, Families, Given};
+use turn_reservations::Reply;
+
+/// No socket is used.
+const NONE_OPENED: Families<Option<Opened>> = Families {
+    ipv4: None,
+    ipv6: None,
+};
 
 /// Copies a message to the start of a buffer, if that has room for it, and returns its length.
-fn copied(message: &[u8], buffer: &mut [u8]) -> Result<usize, StunWriteError>
+pub(crate) fn copied(message: &[u8], buffer: &mut [u8]) -> Result<usize, StunWriteError>
     ensures answer { result ≡ written_in message.now (length buffer.old) }
     ensures buffer { buffer.new ≡ slice_after (Some message.now) buffer.old }
 {
@@ -49,16 +60,24 @@ fn copied(message: &[u8], buffer: &mut [u8]) -> Result<usize, StunWriteError>
     Ok(message.len())
 }
 
-/// The reply to a Binding request. What it shows of [`COMPREHENDED`] is ignored.
-pub(crate) fn bind(request: &Message<'_>, client: Endpoint, buffer: &mut [u8]) -> Response
-    ensures { IsResponse (binding_owed client (message_bytes request.now)) None buffer.old buffer.new
-        result }
+/// The reply to a Binding request. What it shows of the types that are comprehended is ignored.
+pub(crate) fn bind(
+    request: &Message<'_>,
+    client: Endpoint,
+    sets_df: bool,
+    buffer: &mut [u8],
+) -> Response
+    ensures { IsResponse (binding_owed sets_df client (message_bytes request.now)) none_used buffer.old
+        buffer.new result }
 {
-    let reply = BindingReply::supporting(*request, SocketAddr::from(client), &COMPREHENDED);
+    let types = comprehended_by(sets_df);
+    let reply = BindingReply::supporting(*request, SocketAddr::from(client), types);
     Response {
         written: reply.write_into(buffer),
         code: reply.code(),
-        opened: None,
+        opened: NONE_OPENED,
+        reserved: None,
+        claimed: None,
     }
 }
 
@@ -126,14 +145,16 @@ pub(crate) fn refuse(
     buffer: &mut [u8],
 ) -> Response
     requires { class_of (type_field (message_bytes request.now)) ≡ Request }
-    ensures { IsResponse (refusal_owed access.now now client (message_bytes request.now) refusal) None
+    ensures { IsResponse (refusal_owed access.now now client (message_bytes request.now) refusal) none_used
         buffer.old buffer.new result }
 {
     let client = SocketAddr::from(client);
     Response {
         written: write_refusal(alloc, access, now, client, request, refusal, buffer),
         code: Some(refusal.code()),
-        opened: None,
+        opened: NONE_OPENED,
+        reserved: None,
+        claimed: None,
     }
 }
 
@@ -141,17 +162,24 @@ pub(crate) fn refuse(
 fn write_types(
     alloc: Global,
     request: &Message<'_>,
+    sets_df: bool,
     accepted: &Accepted<'_>,
     buffer: &mut [u8],
 ) -> Result<usize, StunWriteError>
     requires { class_of (type_field (message_bytes request.now)) ≡ Request }
     ensures { let r = message_bytes request.now in
         IsWritten true
-        (unknown_refusal None r (key_algorithm accepted.now.key) accepted.now.reply_algorithm)
-        (unknown_text r (key_bytes accepted.now.key) accepted.now.reply_algorithm)
+        (unknown_refusal None sets_df r (key_algorithm accepted.now.key) accepted.now.reply_algorithm)
+        (unknown_text sets_df r (key_bytes accepted.now.key) accepted.now.reply_algorithm)
         buffer.old buffer.new result }
 {
-    let write = write_unknown(alloc, request, accepted, MessageWriteVec::new(alloc))?;
+    let write = write_unknown(
+        alloc,
+        request,
+        sets_df,
+        accepted,
+        MessageWriteVec::new(alloc),
+    )?;
     copied(&write.finish(), buffer)
 }
 
@@ -159,18 +187,67 @@ fn write_types(
 pub(crate) fn refuse_types(
     alloc: Global,
     request: &Message<'_>,
+    sets_df: bool,
     accepted: &Accepted<'_>,
     buffer: &mut [u8],
 ) -> Response
     requires { class_of (type_field (message_bytes request.now)) ≡ Request }
     ensures { (key : UserKey) (algorithm : IntegrityAlgorithm) → Signs key algorithm accepted.now
-        → IsResponse (types_owed (message_bytes request.now) key algorithm) None
+        → IsResponse (types_owed sets_df (message_bytes request.now) key algorithm) none_used
         buffer.old buffer.new result }
 {
     Response {
-        written: write_types(alloc, request, accepted, buffer),
+        written: write_types(alloc, request, sets_df, accepted, buffer),
         code: Some(ErrorCode::UNKNOWN_ATTRIBUTE),
-        opened: None,
+        opened: NONE_OPENED,
+        reserved: None,
+        claimed: None,
+    }
+}
+
+/// Writes the response that sends a client to another server.
+fn write_server(
+    alloc: Global,
+    access: &Access,
+    server: Endpoint,
+    request: &Message<'_>,
+    accepted: &Accepted<'_>,
+    buffer: &mut [u8],
+) -> Result<usize, StunWriteError>
+    requires { class_of (type_field (message_bytes request.now)) ≡ Request }
+    ensures { let r = message_bytes request.now in
+        IsWritten true
+        (redirect_refusal None (software_in access.now) server r (key_algorithm accepted.now.key)
+        accepted.now.reply_algorithm)
+        (redirect_text (software_in access.now) server r (key_bytes accepted.now.key)
+        accepted.now.reply_algorithm) buffer.old buffer.new result }
+{
+    let software = access.software.as_ref();
+    let write = MessageWriteVec::new(alloc);
+    let write = write_redirect(alloc, request, software, server, accepted, write)?;
+    copied(&write.finish(), buffer)
+}
+
+/// The response that sends a client to another server.
+fn redirect(
+    alloc: Global,
+    access: &Access,
+    server: Endpoint,
+    request: &Message<'_>,
+    accepted: &Accepted<'_>,
+    buffer: &mut [u8],
+) -> Response
+    requires { class_of (type_field (message_bytes request.now)) ≡ Request }
+    ensures { (key : UserKey) (algorithm : IntegrityAlgorithm) → Signs key algorithm accepted.now
+        → IsResponse (redirect_owed access.now server (message_bytes request.now) key algorithm) none_used
+        buffer.old buffer.new result }
+{
+    Response {
+        written: write_server(alloc, access, server, request, accepted, buffer),
+        code: Some(ErrorCode::TRY_ALTERNATE),
+        opened: NONE_OPENED,
+        reserved: None,
+        claimed: None,
     }
 }
 
@@ -187,9 +264,9 @@ fn write_reply(
     requires { class_of (type_field (message_bytes request.now)) ≡ Request }
     ensures { let r = message_bytes request.now in
         IsWritten true
-        (answer_refusal None (software_in access.now) client r (answer_of reply)
+        (answer_refusal None (software_in access.now) client r (answer_of reply.answer) reply.token
         (key_algorithm accepted.now.key) accepted.now.reply_algorithm)
-        (answer_text (software_in access.now) client r (answer_of reply)
+        (answer_text (software_in access.now) client r (answer_of reply.answer) reply.token
         (key_bytes accepted.now.key) accepted.now.reply_algorithm) buffer.old buffer.new result }
 {
     let software = access.software.as_ref();
@@ -199,48 +276,105 @@ fn write_reply(
 }
 
 /// The code of an answer that is an error.
-fn code_of(reply: Reply) -> Option<u16>
+fn code_of(reply: Answer) -> Option<u16>
     ensures { result ≡ answer_code (answer_of reply) }
 {
     match reply {
-        Reply::Refused(code) => Some(code),
+        Answer::Refused(refusal) => Some(refusal.code()),
         _ => None,
     }
 }
 
-/// The socket of an allocation that was opened.
-fn opened_with(reply: Reply) -> Option<Opened>
-    ensures { result ≡ opened_with (answer_of reply) (opened_in reply) }
+/// The socket of a relayed address, if it is used from now on: its number is not below `next`.
+fn opened_one(next: u64, given: Option<Given>) -> Option<Opened>
+    ensures { result ≡ opened_one next given }
+{
+    match given {
+        Some(Given { number, address }) if next <= number => Some(Opened {
+            number,
+            relayed: address,
+        }),
+        _ => None,
+    }
+}
+
+/// The sockets that are used from now on, by an answer before which `next` was the next number.
+fn opened_in(next: u64, reply: Answer) -> Families<Option<Opened>>
+    ensures { result ≡ opened_in next (answer_of reply) }
 {
     match reply {
-        Reply::Allocated {
-            relayed,
-            opened: Some(number),
-            ..
-        } => Some(Opened { number, relayed }),
-        _ => None,
+        Answer::Allocated { given, .. } => Families {
+            ipv4: opened_one(next, given.ipv4),
+            ipv6: opened_one(next, given.ipv6),
+        },
+        _ => NONE_OPENED,
     }
 }
 
-/// The answer to a user's request.
-pub(crate) fn answer(
+/// Whether a socket is used from now on.
+fn is_opened(opened: Families<Option<Opened>>) -> bool
+    ensures { result ≡ is_opened opened }
+{
+    opened.ipv4.is_some() | opened.ipv6.is_some()
+}
+
+/// A token, if there is one and a socket is used from now on.
+fn token_if(is_opened: bool, token: Option<u64>) -> Option<u64>
+    ensures { result ≡ if is_opened then token else None }
+{
+    if is_opened { token } else { None }
+}
+
+/// What the server itself answers to a user's request, before which `next` was the next number of a socket.
+fn answer_itself(
     alloc: Global,
     access: &Access,
     client: Endpoint,
     request: &Message<'_>,
-    reply: Reply,
+    served: Served,
+    next: u64,
     accepted: &Accepted<'_>,
     buffer: &mut [u8],
 ) -> Response
     requires { class_of (type_field (message_bytes request.now)) ≡ Request }
     ensures { (key : UserKey) (algorithm : IntegrityAlgorithm) → Signs key algorithm accepted.now
-        → IsResponse
-        (answer_owed access.now client (message_bytes request.now) (answer_of reply) key algorithm)
-        (opened_with (answer_of reply) (opened_in reply)) buffer.old buffer.new result }
+        → let answer = answer_of served.reply.answer in IsResponse
+        (own_owed access.now client (message_bytes request.now) answer served.reply.token key algorithm)
+        (used_by served.claim served.reply.token (opened_in next answer)) buffer.old buffer.new result }
 {
+    let reply = served.reply;
+    let opened = opened_in(next, reply.answer);
+    let is_opened = is_opened(opened);
     Response {
         written: write_reply(alloc, access, client, request, reply, accepted, buffer),
-        code: code_of(reply),
-        opened: opened_with(reply),
+        code: code_of(reply.answer),
+        opened,
+        reserved: token_if(is_opened, reply.token),
+        claimed: token_if(is_opened, served.claim),
+    }
+}
+
+/// The answer to a user's request, before which `next` was the next number of a socket.
+pub(crate) fn answer(
+    alloc: Global,
+    access: &Access,
+    client: Endpoint,
+    request: &Message<'_>,
+    served: Served,
+    next: u64,
+    accepted: &Accepted<'_>,
+    buffer: &mut [u8],
+) -> Response
+    requires { class_of (type_field (message_bytes request.now)) ≡ Request }
+    ensures { (key : UserKey) (algorithm : IntegrityAlgorithm) → Signs key algorithm accepted.now
+        → let answer = answer_of served.reply.answer in IsResponse
+        (answer_owed access.now client (message_bytes request.now) answer served.reply.token key algorithm)
+        (used_by served.claim served.reply.token (opened_in next answer)) buffer.old buffer.new result }
+{
+    match alternate_for(access, client, request, served.reply.answer) {
+        Some(server) => redirect(alloc, access, server, request, accepted, buffer),
+        None => answer_itself(
+            alloc, access, client, request, served, next, accepted, buffer,
+        ),
     }
 }

@@ -14,9 +14,9 @@ ghost use Rattle.turn_server.specs.Answers.{unknown_attributes, unknown_text, li
 ghost use Rattle.turn_server.specs.Comprehended.{comprehended};
 ghost use Rattle.turn_server.specs.Unfinished.{WritesUnfinished};
 
-use crate::COMPREHENDED;
 use crate::adding::add_unknown;
 use crate::answers::error_of;
+use crate::comprehended::comprehended_by;
 use std::alloc::{AllocError, Global};
 use stun_authentication::Accepted;
 use stun_types::attribute::{
@@ -29,25 +29,30 @@ use stun_types::prelude::*;
 fn unknown_types_of(
     alloc: Global,
     request: &Message<'_>,
+    sets_df: bool,
 ) -> Result<Vec<AttributeType>, StunWriteError>
     ensures found { IfOk result (λ types. types.items
-        ≡ unknown_types comprehended (message_bytes request.now)) }
+        ≡ unknown_types (comprehended sets_df) (message_bytes request.now)) }
     ensures err { IfErr result (λ e. e ≡ StunWriteError.OutOfMemory) }
 {
     let mut types = Vec::new(alloc);
-    for atype in UnknownTypes::new(request.as_bytes(), &COMPREHENDED) {
+    for atype in UnknownTypes::new(request.as_bytes(), comprehended_by(sets_df)) {
         types.push(atype).map_err(AllocError::from)?;
     }
     Ok(types)
 }
 
 /// The UNKNOWN-ATTRIBUTES with the types that a request shows and that aren't comprehended.
-fn list_of(alloc: Global, request: &Message<'_>) -> Result<UnknownAttributes, StunWriteError>
+fn list_of(
+    alloc: Global,
+    request: &Message<'_>,
+    sets_df: bool,
+) -> Result<UnknownAttributes, StunWriteError>
     ensures listed { IfOk result (λ list. listed list
-        ≡ unknown_types comprehended (message_bytes request.now)) }
-    ensures fault { FailsFor (list_fault (message_bytes request.now)) result }
+        ≡ unknown_types (comprehended sets_df) (message_bytes request.now)) }
+    ensures fault { FailsFor (list_fault sets_df (message_bytes request.now)) result }
 {
-    let types = unknown_types_of(alloc, request)?;
+    let types = unknown_types_of(alloc, request, sets_df)?;
     UnknownAttributes::new(alloc, &types)
 }
 
@@ -55,6 +60,7 @@ fn list_of(alloc: Global, request: &Message<'_>) -> Result<UnknownAttributes, St
 fn write_listed<B: MessageWrite + Drop>(
     alloc: Global,
     request: &Message<'_>,
+    sets_df: bool,
     write: B,
 ) -> Result<B, StunWriteError>
     requires request { class_of (type_field (message_bytes request.now)) ≡ Request }
@@ -62,10 +68,10 @@ fn write_listed<B: MessageWrite + Drop>(
     requires room { Fits (B.state write).greatest 20 }
     ensures { let r = message_bytes request.now in
         WritesUnfinished (λ w. B.state w) result (B.state write).greatest ErrorClass r
-        (unknown_attributes r) (listing_refusal (B.state write).greatest r) }
+        (unknown_attributes sets_df r) (listing_refusal (B.state write).greatest sets_df r) }
 {
     let error = error_of(alloc, ErrorCode::UNKNOWN_ATTRIBUTE)?;
-    let list = list_of(alloc, request)?;
+    let list = list_of(alloc, request, sets_df)?;
     let mut write = Message::builder_error(request, write)?;
     add_unknown(&error, &list, &mut write)?;
     Ok(write)
@@ -85,6 +91,7 @@ fn write_listed<B: MessageWrite + Drop>(
 pub(crate) fn write_unknown<B: MessageWrite + Drop>(
     alloc: Global,
     request: &Message<'_>,
+    sets_df: bool,
     accepted: &Accepted<'_>,
     write: B,
 ) -> Result<B, StunWriteError>
@@ -93,12 +100,12 @@ pub(crate) fn write_unknown<B: MessageWrite + Drop>(
     requires room { Fits (B.state write).greatest 20 }
     ensures text { let r = message_bytes request.now in
         IfOk result (λ w. (B.state w).bytes
-        ≡ unknown_text r (key_bytes accepted.now.key) accepted.now.reply_algorithm) }
+        ≡ unknown_text sets_df r (key_bytes accepted.now.key) accepted.now.reply_algorithm) }
     ensures answer { let r = message_bytes request.now in
-        FailsFor (unknown_refusal (B.state write).greatest r (key_algorithm accepted.now.key)
+        FailsFor (unknown_refusal (B.state write).greatest sets_df r (key_algorithm accepted.now.key)
         accepted.now.reply_algorithm) result }
 {
-    let mut write = write_listed(alloc, request, write)?;
+    let mut write = write_listed(alloc, request, sets_df, write)?;
     accepted.finish_reply(request.has_attribute(Fingerprint::TYPE), &mut write)?;
     Ok(write)
 }

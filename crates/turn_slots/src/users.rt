@@ -22,6 +22,18 @@ pub struct UserId {
     pub low: u128,
 }
 
+impl UserId {
+    ghost use Rattle.std.specs.Prelude.{◌≡◌, ◌==◌};
+    ghost use Rattle.turn_slots.specs.Users.{user_number};
+
+    /// Returns whether this is the same user as another: all 256 bits are equal.
+    pub fn is_same(self, other: UserId) -> bool
+        ensures { result ≡ (user_number self == user_number other) }
+    {
+        self == other
+    }
+}
+
 impl From<[u8; 32]> for UserId {
     ghost use Rattle.std.specs.Prelude.{◌≡◌};
     ghost use Rattle.turn_slots.specs.Users.{user_of};

@@ -3,6 +3,8 @@
 //! contracts state.
 #![tactic(auto)]
 
+mod session;
+
 ghost use Rattle.std.specs.Prelude.{◌≡◌, ◌-◌, true, false, [], ◌∷◌, ◌++◌, codes, map, slice_range, replicate, None, Some, nat_lt};
 ghost use Rattle.stun_grammar.specs.declared.error.StunWriteError.TheVariants.{OutOfRange};
 ghost use Rattle.stun_grammar.specs.AttributeTypes.{SOFTWARE, USERNAME, REALM, NONCE, MESSAGE_INTEGRITY, FINGERPRINT};
@@ -50,12 +52,14 @@ ghost use Rattle.turn_attrs.specs.declared.protocols.Protocol.TheVariants.{Stun,
 ghost use Rattle.turn_attrs.specs.Turn.{LIFETIME, XOR_PEER_ADDRESS, DATA, CHANNEL_NUMBER, XOR_RELAYED_ADDRESS, REQUESTED_ADDRESS_FAMILY, EVEN_PORT, REQUESTED_TRANSPORT, DONT_FRAGMENT, RESERVATION_TOKEN, ADDITIONAL_ADDRESS_FAMILY, ADDRESS_ERROR_CODE, ICMP, family_in, reserve_in, protocol_in, icmp_in};
 ghost use Rattle.stun_framing.specs.declared.channel_range.ChannelRange.TheVariants.{Rfc8656, Rfc5766};
 ghost use Rattle.turn_attrs.specs.Channels.{channel_in, old_channel_in, channel_field, data_length};
-ghost use Rattle.turn_attrs.specs.ChannelMessages.{channel_fault, channel_fault_in};
+ghost use Rattle.turn_attrs.specs.ChannelMessages.{channel_fault, channel_fault_in, data_in, prefix_fault};
 ghost use Rattle.turn_attrs.specs.Heads.{data_indication as indication_of};
 ghost use Rattle.turn_attrs.specs.Protocols.{protocol, protocol_in as protocol_in_range};
 ghost use Rattle.usage_vectors.specs.TurnMessages.{allocate_success, allocate_success_id, allocate_success_attributes, channel_bind, channel_bind_id, channel_bind_attributes, data_indication, data_indication_id, data_indication_attributes, relayed, peer, peer_ipv6};
 ghost use Rattle.usage_vectors.specs.Streams.{with_channels, padded_data, whole_stream, pieces, unsigned_error};
 ghost use Rattle.usage_vectors.specs.Reasons.{all_codes, all_reasons};
+
+pub use session::turn_session_is_right;
 
 /// The times at which a request is sent if RTO is 500 ms, Rc 7 and Rm 16, as RFC 8489, section 6.2.1,
 /// prints them, and the waits between them.
@@ -146,6 +150,8 @@ pub fn channel_data_is_right()
     ensures padded { channel_fault (0x40 ∷ 0x00 ∷ 0x00 ∷ 0x05 ∷ codes "hello" ++ replicate 3 0) ≡ None }
     ensures cut { channel_fault (0x40 ∷ 0x00 ∷ 0x00 ∷ 0x05 ∷ codes "hell") ≡ Some (Truncated 9 8) }
     ensures longer { channel_fault (0x40 ∷ 0x00 ∷ 0x00 ∷ 0x05 ∷ codes "hello" ++ replicate 4 0) ≡ Some (TooLarge 12 13) }
+    ensures followed { prefix_fault (0x40 ∷ 0x00 ∷ 0x00 ∷ 0x05 ∷ codes "hello" ++ replicate 4 0) ≡ None }
+    ensures found { data_in (0x40 ∷ 0x00 ∷ 0x00 ∷ 0x05 ∷ codes "hello" ++ replicate 4 0) ≡ Some (codes "hello") }
     ensures old_channel { channel_fault_in Rfc5766 (0x67 ∷ 0x80 ∷ 0x00 ∷ 0x05 ∷ codes "hello") ≡ None }
     ensures no_channel { channel_fault (0x50 ∷ 0x00 ∷ 0x00 ∷ 0x05 ∷ codes "hello") ≡ Some NotChannelData }
 {}

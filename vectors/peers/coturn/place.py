@@ -51,8 +51,8 @@ class Place:
             "--realm", judging.REALM.decode(), "--allow-loopback-peers", "--relay-threads", "1",
             "--listening-port", str(self.port), "-L", f"{self.host}.9", "-L", f"{self.host}.10", "-L", "::1",
             "-E", f"{self.host}.9", *v6, f"--permission-lifetime={PERMISSION}", f"--channel-lifetime={CHANNEL}",
-            f"--max-allocate-lifetime={self.setup.greatest}", f"--user-quota={self.setup.of_user}",
-            f"--total-quota={self.setup.allocations}", "--userdb", str(self.folder / f"db{self.port}"),
+            f"--max-allocate-lifetime={self.setup.greatest}", f"--user-quota={self.setup.relays_per_user}",
+            f"--total-quota={self.setup.relays}", "--userdb", str(self.folder / f"db{self.port}"),
             "--pidfile", str(self.folder / f"pid{self.port}"), "--log-file", "/dev/null", "--simple-log",
         ]
         self.see_that_the_port_is_free()

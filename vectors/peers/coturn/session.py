@@ -15,6 +15,7 @@ KEPT = 2.0
 WISHES = {
     "4": [(wire.TRANSPORT, "11000000")], "6": [(wire.TRANSPORT, "11000000"), (wire.FAMILY, "02000000")],
     "442": [(wire.TRANSPORT, "06000000")], "440": [(wire.TRANSPORT, "11000000"), (wire.FAMILY, "03000000")],
+    "46": [(wire.TRANSPORT, "11000000"), (wire.ADDITIONAL, "02000000")],
     "400": [], "508": [(wire.TRANSPORT, "11000000"), (wire.TOKEN, "00" * 8)],
 }
 
@@ -53,6 +54,8 @@ class Session:
 
     def __init__(self, place: Place, level, patient):
         self.place, self.level, self.identities, self.patient = place, level, itertools.count(1000), patient
+        # (coturn draws the tokens: its own, by those that the row has; and the next one of these)
+        self.tokens, self.drawn = {}, judging.Site.drawn
 
     # messages
 
@@ -102,6 +105,15 @@ class Session:
             self.place.relayed.append(peer)
         return self.place.relayed.index(peer) + 1
 
+    def token_word(self, token, relayed):
+        """A token of coturn as the row has it. One that is new reserves the port after a relayed address."""
+        known = next((it for it, its in self.tokens.items() if its == token), None)
+        if known is None:
+            known = self.drawn
+            self.tokens[known] = token
+            self.socket_number((relayed[0], relayed[1] + 1))
+        return f"token:{known}"
+
     def word(self, name, user, message):
         """A response as the files have it, of whichever level."""
         if message is None:
@@ -113,12 +125,15 @@ class Session:
             parts.append(f"lifetime-{int.from_bytes(its(wire.LIFETIME))}")
         relayed = [wire.read_xor_address(message.identity, it) for it in message.all(wire.RELAYED)]
         parts += [f"relayed{4 if len(it[0]) == 4 else 6}-{self.socket_number(it)}" for it in relayed]
+        if its(wire.TOKEN) is not None:
+            parts.append(self.token_word(its(wire.TOKEN), relayed[0]))
         if its(wire.MAPPED) is not None:
             host, port = self.place.client(name)[0].getsockname()[:2]
             mapped = wire.read_xor_address(message.identity, its(wire.MAPPED))
             parts.append("mapped" if mapped == (ipaddress.ip_address(host).packed, port) else f"mapped-{mapped}")
-        if its(wire.FAMILY_ERROR) is not None:
-            parts.append("family-440" if its(wire.FAMILY_ERROR)[2:4] == b"\x04\x28" else "family-error")
+        for value in message.all(wire.FAMILY_ERROR):
+            family = {1: 4, 2: 6}.get(value[0], value[0])
+            parts.append(f"missing{family}-{(value[2] & 7) * 100 + value[3]}")
         if its(wire.UNKNOWN) is not None:
             parts.append("types-" + its(wire.UNKNOWN).hex("-", 2))
         nonce, listed = its(wire.NONCE), its(wire.ALGORITHMS) is not None
@@ -134,10 +149,12 @@ class Session:
         """The word of the file `turn`."""
         if parts[0] != "ok":
             return parts[0]
-        number = [it.split("-")[1] for it in parts if it.startswith("relayed")]
+        number = [",".join(sorted(it.split("-")[1] for it in parts if it.startswith("relayed")))]
         lifetime = [it.split("-")[1] for it in parts if it.startswith("lifetime")]
         name = {3: "allocated", 4: "refreshed", 8: "permitted", 9: "bound"}[message.method]
-        return ":".join([name, *number, *lifetime])
+        missing = [it.removeprefix("missing") for it in parts if it.startswith("missing")]
+        token = [it for it in parts if it.startswith("token:")]
+        return ":".join([name, *filter(None, number), *lifetime, *missing, *token])
 
     # what is relayed
 
@@ -176,8 +193,19 @@ class Session:
         real = [(ipaddress.ip_address(host).packed, port) for host, port in map(self.place.real, peers)]
         return lambda identity: [(wire.PEER, wire.xor_address(identity, it)) for it in real]
 
-    def allocate(self, name, user, identity, lifetime, wish):
-        parts = [(type_, bytes.fromhex(value)) for type_, value in WISHES[wish]]
+    def reserve(self, name, user, identity, token, lifetime, wish):
+        self.drawn = token
+        return self.allocate(name, user, identity, lifetime, "4" if wish == "508" else wish, (wire.EVEN_PORT, b"\x80"))
+
+    def claim(self, name, user, identity, token, lifetime):
+        return self.allocate(name, user, identity, lifetime, "4", (wire.TOKEN, self.own(bytes.fromhex(token))))
+
+    def own(self, token):
+        """The token of coturn for one of the row, or this one if there is none."""
+        return self.tokens.get(token.hex(), token)
+
+    def allocate(self, name, user, identity, lifetime, wish, *more):
+        parts = [*((type_, bytes.fromhex(value)) for type_, value in WISHES[wish]), *more]
         parts += [(wire.LIFETIME, lifetime.to_bytes(4))] if lifetime is not None else []
         return self.request(name, user, "allocate", lambda _: parts, int(identity).to_bytes(12))
 
@@ -225,6 +253,8 @@ class Session:
         for at, type_, value in found:
             if type_ == wire.PEER:
                 value = self.place.replaced(value, octets[8:20])
+            elif type_ == wire.TOKEN:
+                value = self.own(value)
             elif type_ == wire.NONCE and value == judging.FRESH:
                 value = self.nonce(name)
             elif type_ == wire.INTEGRITY and any(value):

@@ -118,6 +118,16 @@ impl<const N: usize, H: HashFunction<N>> KeyedHashers<N, H> {
         }
     }
 
+    /// Copies both hashers.
+    pub(crate) fn copy(&self) -> Self
+        ensures { result ≡ self.now }
+    {
+        KeyedHashers {
+            inner: self.inner.copy(),
+            outer: self.outer.copy(),
+        }
+    }
+
     /// Replaces both hashers by such that have taken in nothing.
     pub(crate) fn overwrite(&mut self)
         ensures inner { H.holds self.new.inner [] }

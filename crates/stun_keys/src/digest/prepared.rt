@@ -23,6 +23,16 @@ pub(crate) struct BothHashers {
 }
 
 impl BothHashers {
+    /// Copies the hashers.
+    fn copy(&self) -> Self
+        ensures { result ≡ self.now }
+    {
+        BothHashers {
+            sha1: self.sha1.as_ref().map(|keyed| keyed.copy()),
+            sha256: self.sha256.as_ref().map(|keyed| keyed.copy()),
+        }
+    }
+
     /// Overwrites the hashers.
     fn overwrite(&mut self) {
         if let Some(keyed) = &mut self.sha1 {
@@ -56,6 +66,21 @@ impl Prepared {
     {
         let both = Box::new(alloc, hashers)?;
         Ok(Prepared { both: Some(both) })
+    }
+
+    /// Copies what is kept, into memory from `alloc`.
+    pub(crate) fn copied(&self, alloc: Global) -> Result<Self, AllocError>
+        ensures right { (key : List ℕ) → IfPrepared key self.now.both
+            → IfOk result (λ copy. IfPrepared key copy.both) }
+        ensures there { (sha1 sha256 : Bool) → IfOk result
+            (λ copy. keeps copy.both sha1 sha256 ≡ keeps self.now.both sha1 sha256) }
+    {
+        match &self.both {
+            Some(both) => Ok(Prepared {
+                both: Some(Box::new(alloc, both.copy())?),
+            }),
+            None => Ok(Prepared::none()),
+        }
     }
 
     /// Whether there are hashers by both algorithms, as far as they are wanted.

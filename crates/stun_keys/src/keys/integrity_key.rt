@@ -94,6 +94,18 @@ impl IntegrityKey {
         Ok(())
     }
 
+    /// Copies the key with its blocks and what it keeps prepared; only an allocation fails.
+    pub(crate) fn copied(&self, alloc: Global) -> Result<Self, AllocError>
+        ensures same { IfOk result (IsKey (key_algorithm self.now) (key_bytes self.now)) }
+        ensures prepared { IfOk result (λ copy. is_prepared copy ≡ is_prepared self.now) }
+    {
+        Ok(IntegrityKey {
+            algorithm: self.algorithm,
+            bytes: self.bytes.copied(alloc)?,
+            prepared: self.prepared.copied(alloc)?,
+        })
+    }
+
     /// A key with the bytes `bytes`, made for an algorithm or with none. The bytes are copied, the
     /// blocks of its HMACs are made, and it is prepared for the algorithms that it serves, in two
     /// allocations by `alloc`.
@@ -174,7 +186,8 @@ impl IntegrityKey {
         }
     }
 
-    /// Copies the key, in two allocations by `alloc`. The copy is prepared.
+    /// Copies the key, in two allocations by `alloc`. The copy is prepared. Nothing is digested if the
+    /// key is prepared.
     ///
     /// # Errors
     ///
@@ -184,7 +197,9 @@ impl IntegrityKey {
         ensures prepared { IfOk result (λ key. is_prepared key ≡ true) }
         ensures err { IfErr result (λ e. e ≡ StunWriteError.OutOfMemory) }
     {
-        IntegrityKey::new(alloc, self.as_bytes(), self.algorithm)
+        let mut copy = self.copied(alloc)?;
+        copy.prepare_in(alloc)?;
+        Ok(copy)
     }
 
     /// The bytes of the key.

@@ -27,3 +27,12 @@ pub fn prepare_key(alloc: Global, key: &mut IntegrityKey) -> Result<(), AllocErr
 {
     key.prepare_in(alloc)
 }
+
+/// Copies a key with what it keeps prepared: nothing is digested. It takes one allocation, and a second
+/// one if the key is prepared.
+pub fn copy_key(alloc: Global, key: &IntegrityKey) -> Result<IntegrityKey, AllocError>
+    ensures same { IfOk result (IsKey (key_algorithm key.now) (key_bytes key.now)) }
+    ensures prepared { IfOk result (λ copy. is_prepared copy ≡ is_prepared key.now) }
+{
+    key.copied(alloc)
+}

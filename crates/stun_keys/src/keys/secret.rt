@@ -88,6 +88,16 @@ impl SecretBytes {
         }
     }
 
+    /// A copy, in memory that `alloc` gives.
+    pub(crate) fn copied(&self, alloc: Global) -> Result<Self, AllocError>
+        ensures { IfOk result (λ copy. boxed_slice_items copy.bytes ≡ boxed_slice_items self.now.bytes) }
+    {
+        let bytes = self.as_bytes();
+        let mut copy = Vec::with_capacity(alloc, bytes.len())?;
+        copy.extend_from_slice(bytes)?;
+        Ok(SecretBytes::new(copy))
+    }
+
     /// The bytes.
     pub(crate) fn as_bytes(&self) -> &[u8]
         ensures { result.now ≡ boxed_slice_items self.now.bytes }

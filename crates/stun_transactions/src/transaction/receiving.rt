@@ -1,7 +1,6 @@
 //! What a received message is for a transaction, and what it does to it.
 
-use crate::judge::outcome;
-use crate::received::{Received, with_message};
+use crate::received::Received;
 use crate::transaction::Transaction;
 use stun_types::attribute::AttributeType;
 use stun_types::message::Message;
@@ -106,8 +105,9 @@ impl Transaction {
         if !self.parts.state.is_open() {
             return Received::NotForThis;
         }
-        let outcome = outcome(&self.parts, &self.key, understood, &message);
-        self.parts.state.receive(outcome);
-        with_message(outcome, message)
+        let request = self.parts.pending();
+        let received = request.judge(self.key.as_ref(), message, understood);
+        self.parts.state.receive(&received);
+        received
     }
 }

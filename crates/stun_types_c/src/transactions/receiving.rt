@@ -15,7 +15,7 @@ use crate::codes;
 use crate::keys::number_of;
 use crate::shared_key::SharedKey;
 use std::alloc::{AllocError, Global};
-use stun_keys::keys::key_of_bytes;
+use stun_keys::keys::copy_key;
 use stun_transactions::{
     Claim, Discard, Failure, PartsError, Received, Transaction, TransactionParts,
 };
@@ -97,7 +97,7 @@ fn key_for(
         return Err(key_answer(error));
     }
     match needed {
-        Some(key) => match key_of_bytes(alloc, key.as_bytes(), key.algorithm()) {
+        Some(key) => match copy_key(alloc, key) {
             Ok(copy) => Ok(Some(copy)),
             Err(AllocError) => Err(plain(codes::OUT_OF_MEMORY)),
         },

@@ -9,7 +9,7 @@ use Rattle.turn_allocations.proofs.allocating.open.Goals as goal
 
 pub returns-then-not-can_open-clause-opens : goal.returns-then-not-can_open-clause-opens
 returns-then-not-can_open-clause-opens g c =
-    barred_of (setup_of c.args.limits.now g.row.P g.row.C) c.args.asking.now.tuple (user_number c.args.asking.now.user) c.args.asking.now.id c.args.until
+    barred_of (setup_of c.args.limits.now g.row.P g.row.C) c.args.asking.now.tuple (user_number c.args.asking.now.user) c.args.asking.now.id c.args.expires_at
     c.args.family c.args.want c.in-Ready.address c.args.relays.now c.in-Ready.is
     (λ ready. sym (c.can_open.ensures.can ready) ∙ c.if-not-can_open.true)
 
@@ -20,11 +20,11 @@ returns-clause-opens g c =
     let user = user_number c.args.asking.now.user in
     let id = c.args.asking.now.id in
     let it = opens_it c.lists_have_slots.ensures c.args.relays.now c.open.new.self
-    (λ n. opened (record { tuple = tuple; family = c.args.family }) user id c.in-Ready.address c.args.until n)
+    (λ n. opened (record { tuple = tuple; family = c.args.family }) user id c.in-Ready.address c.args.expires_at n)
     c.args.limits.now.relays c.open.result c.open.ensures.some c.open.ensures.none
     (c.can_open.ensures.fewer c.if-not-can_open.false) c.requires.slots c.requires.openings in
-    subst (λ (w : Want). OpensOf setup tuple user id c.args.until c.args.family w c.args.relays.now c.open.new.self) (sym c.in-Ready.is)
-    (opened_of setup tuple user id c.args.until c.list_follows_slots.ensures c.args.family c.in-Ready.address c.args.relays.now c.open.new.self it.0 it.1
+    subst (λ (w : Want). OpensOf setup tuple user id c.args.expires_at c.args.family w c.args.relays.now c.open.new.self) (sym c.in-Ready.is)
+    (opened_of setup tuple user id c.args.expires_at c.list_follows_slots.ensures c.args.family c.in-Ready.address c.args.relays.now c.open.new.self it.0 it.1
     c.numbers_are_below_next.ensures it.2 (λ ready. sym (c.can_open.ensures.can ready) ∙ c.if-not-can_open.false))
 
 pub returns-clause-sound : goal.returns-clause-sound
@@ -34,8 +34,8 @@ returns-clause-sound g c =
     let user = user_number c.args.asking.now.user in
     let id = c.args.asking.now.id in
     let it = opens_it c.lists_have_slots.ensures c.args.relays.now c.open.new.self
-    (λ n. opened (record { tuple = tuple; family = c.args.family }) user id c.in-Ready.address c.args.until n)
+    (λ n. opened (record { tuple = tuple; family = c.args.family }) user id c.in-Ready.address c.args.expires_at n)
     c.args.limits.now.relays c.open.result c.open.ensures.some c.open.ensures.none
     (c.can_open.ensures.fewer c.if-not-can_open.false) c.requires.slots c.requires.openings in
-    opened_sound setup tuple user id c.args.until c.list_follows_slots.ensures c.args.family c.in-Ready.address c.args.relays.now c.open.new.self it.0 it.1
-    c.numbers_are_below_next.ensures it.2 c.requires.sound c.requires.family c.requires.until
+    opened_sound setup tuple user id c.args.expires_at c.list_follows_slots.ensures c.args.family c.in-Ready.address c.args.relays.now c.open.new.self it.0 it.1
+    c.numbers_are_below_next.ensures it.2 c.requires.sound c.requires.family c.requires.expires_at

@@ -18,7 +18,7 @@ returns-in-Some-bind_fault-clause-serves g c = λ tuple ended owns.
     let mine = mine_by setup rules t tuple user c.owner_fault.result (λ others. c.owner_fault.ensures t tuple others owns) ended c.in_default.is in
     bind_refused setup rules t tuple user c.owner_fault.result (λ others. c.owner_fault.ensures t tuple others owns) ended
     c.args.number c.args.peer c.in_default.is
-    c.bind_fault.result (c.bind_fault.ensures tuple user owns mine) c.in-Some-bind_fault.refusal c.in-Some-bind_fault.is
+    c.bind_fault.result (c.bind_fault.ensures.rows tuple user owns mine) c.in-Some-bind_fault.refusal c.in-Some-bind_fault.is
 
 pub returns-clause-serves : goal.returns-clause-serves
 returns-clause-serves g c = λ tuple ended owns.
@@ -31,7 +31,7 @@ returns-clause-serves g c = λ tuple ended owns.
     bind_serves c.list_follows_slots.ensures c.lists_have_slots.ensures setup rules t tuple user c.args.client.now owns own
     c.args.number c.args.peer c.of_family-place.result (c.of_family-place.ensures.found t tuple owns)
     c.bound_for.result (c.bound_for.ensures g.row.P g.row.C)
-    c.bind_fault.result c.in_default-bind_fault.is (c.bind_fault.ensures tuple user owns mine)
+    c.bind_fault.result c.in_default-bind_fault.is (c.bind_fault.ensures.rows tuple user owns mine)
     c.bind_in.new.relays c.bind_in.ensures.binds ended
 
 pub returns-clause-sound : goal.returns-clause-sound

@@ -20,8 +20,8 @@ returns-then-lifetime-eq0-clause-serves g c = λ setup rules tuple greatest owns
     let user = user_number c.args.user in
     let own : (others : Option ℕ) → own_rows tuple user (state_of t) others ≡ others = λ others. c.owner_fault.ensures t tuple others owns ∙ ap (λ (o : Option Refusal). or_else (option_map code_of o) others) c.in_default.is in
     let has_it = sym (c.has_wanted.ensures t tuple owns) ∙ c.if-not-has_wanted.false in
-    let left = ap (refreshed_for c.args.lifetime) greatest ∙ sym c.refreshed_for-lifetime.ensures in
-    served_by setup rules tuple user c.args.family c.args.lifetime t c.end_wanted.new.relays c.args.ended.now c.end_wanted.new.ended c.refreshed_for-lifetime.result left
+    let left = ap (refreshed_for c.args.lifetime) greatest ∙ sym c.refresh_lifetime-lifetime.ensures in
+    served_by setup rules tuple user c.args.family c.args.lifetime t c.end_wanted.new.relays c.args.ended.now c.end_wanted.new.ended c.refresh_lifetime-lifetime.result left
     (fulfilled setup rules tuple user c.args.family c.args.lifetime (state_of t) own has_it)
     (inl (c.if-lifetime-eq0.true, c.end_wanted.ensures.done tuple user owns (mine_from tuple user (state_of t) (own _)))) _ refl
 
@@ -29,10 +29,10 @@ pub returns-else-lifetime-eq0-clause-serves : goal.returns-else-lifetime-eq0-cla
 returns-else-lifetime-eq0-clause-serves g c = λ setup rules tuple greatest owns.
     let t = c.args.relays.now in
     let user = user_number c.args.user in
-    let n = c.refreshed_for-lifetime.result in
+    let n = c.refresh_lifetime-lifetime.result in
     let own : (others : Option ℕ) → own_rows tuple user (state_of t) others ≡ others = λ others. c.owner_fault.ensures t tuple others owns ∙ ap (λ (o : Option Refusal). or_else (option_map code_of o) others) c.in_default.is in
     let has_it = sym (c.has_wanted.ensures t tuple owns) ∙ c.if-not-has_wanted.false in
-    let left = ap (refreshed_for c.args.lifetime) greatest ∙ sym c.refreshed_for-lifetime.ensures in
+    let left = ap (refreshed_for c.args.lifetime) greatest ∙ sym c.refresh_lifetime-lifetime.ensures in
     let clock = c.clock.ensures.clock in
     let end : c.clock.result + 1_000_000_000 * n ≡ t.clock + seconds n = omega (arith, clock) in
     let becomes = subst (λ (m : ℕ). Becomes t c.set_ends.new.relays (changed tuple user (lasting c.args.family m) (state_of t))) end (c.set_ends.ensures.becomes tuple user owns (mine_from tuple user (state_of t) (own _))) in

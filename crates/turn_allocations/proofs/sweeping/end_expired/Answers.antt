@@ -17,7 +17,7 @@ pub returns-in_default-clause-left : goal.returns-in_default-clause-left
 returns-in_default-clause-left g c =
     let none = c.in_default.ensures.none in
     let clock = c.args.relays.now.clock in
-    let live : (slot : ℕ) (r : Relay) → _ → not (is_live clock r) ≡ _ = λ slot r there. not_from_true (is_live clock r) (lt-ltb clock r.until (subst (λ (n : ℕ). n < r.until) c.expired.invariant.clock_is (none.0 slot r there))) in
+    let live : (slot : ℕ) (r : Relay) → _ → not (is_live clock r) ≡ _ = λ slot r there. not_from_true (is_live clock r) (lt-ltb clock r.expires_at (subst (λ (n : ℕ). n < r.expires_at) c.expired.invariant.clock_is (none.0 slot r there))) in
     let done = ending_ends c.list_follows_slots.ensures c.lists_have_slots.ensures (λ a. not (is_live clock a)) c.args.relays.now c.args.ended.now c.expired.relays c.expired.ended c.expired.invariant live in
     subst (λ (t : Table). Becomes c.args.relays.now t (at clock (state_of c.args.relays.now))) (sym none.1) (expired_left clock c.args.relays.now c.expired.relays refl c.args.ended.now c.expired.ended done).0
 
@@ -25,7 +25,7 @@ pub returns-in_default-clause-ended : goal.returns-in_default-clause-ended
 returns-in_default-clause-ended g c =
     let none = c.in_default.ensures.none in
     let clock = c.args.relays.now.clock in
-    let live : (slot : ℕ) (r : Relay) → _ → not (is_live clock r) ≡ _ = λ slot r there. not_from_true (is_live clock r) (lt-ltb clock r.until (subst (λ (n : ℕ). n < r.until) c.expired.invariant.clock_is (none.0 slot r there))) in
+    let live : (slot : ℕ) (r : Relay) → _ → not (is_live clock r) ≡ _ = λ slot r there. not_from_true (is_live clock r) (lt-ltb clock r.expires_at (subst (λ (n : ℕ). n < r.expires_at) c.expired.invariant.clock_is (none.0 slot r there))) in
     let done = ending_ends c.list_follows_slots.ensures c.lists_have_slots.ensures (λ a. not (is_live clock a)) c.args.relays.now c.args.ended.now c.expired.relays c.expired.ended c.expired.invariant live in
     (expired_left clock c.args.relays.now c.expired.relays refl c.args.ended.now c.expired.ended done).1
 
@@ -52,6 +52,6 @@ expired-preserved g c =
     let pushed = c.push.ensures ∙ ap (λ (n : ℕ). record c.expired.ended { numbers = c.expired.ended.numbers ++ n ∷ [] }) (sym it.3) in
     let over = it.4 in
     let same = c.expired.invariant.clock_is in
-    let ended : not (is_live clock it.1) ≡ _ = not_from_false (is_live clock it.1) (false_from_ne_true (is_live clock it.1) (λ live. let lt = ltb-true clock it.1.until live in absurd (omega (arith, lt, over, same)))) in
+    let ended : not (is_live clock it.1) ≡ _ = not_from_false (is_live clock it.1) (false_from_ne_true (is_live clock it.1) (λ live. let lt = ltb-true clock it.1.expires_at live in absurd (omega (arith, lt, over, same)))) in
     ending_goes_on c.list_follows_slots.ensures c.lists_have_slots.ensures (λ a. not (is_live clock a)) c.args.relays.now c.args.ended.now c.expired.relays c.expired.ended c.expired.invariant c.numbers_are_distinct.ensures
     it.0 it.1 it.2 ended c.end_due.new.self it.5 c.push.new.self pushed

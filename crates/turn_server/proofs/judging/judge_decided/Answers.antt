@@ -9,5 +9,5 @@ use Rattle.turn_server.proofs.judging.judge_decided.Goals as goal
 pub returns-in-Accepted : goal.returns-in-Accepted
 returns-in-Accepted c site decision realm decides =
     let d = message_bytes c.args.request.now in
-    decision_reported site (method_of (type_field d)) d c.in-Accepted.accepted c.judge_accepted.result
+    decision_reported c.args.sets_df site (method_of (type_field d)) d c.in-Accepted.accepted c.judge_accepted.result
     (λ user key algorithm. c.judge_accepted.ensures site user key algorithm realm) decision (subst (Decides decision) c.in-Accepted.is decides)

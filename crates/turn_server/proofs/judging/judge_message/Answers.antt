@@ -18,8 +18,8 @@ returns-in-Request-clause-judged g c =
     let bytes : message_bytes c.in-Ok.message ≡ d = search rules in
     let parses : parse_fault d ≡ None = search rules in
     let class_is : class_of (type_field d) ≡ Request = search rules in
-    subst (λ (j : Judged). IfOk c.judge_request.result (Tells site d j)) (sym (message_is site d Request parses class_is))
-    (subst (λ (b : List ℕ). IfOk c.judge_request.result (Tells site b (requested site (method_of (type_field b)) b))) bytes c.judge_request.ensures.judged)
+    subst (λ (j : Judged). IfOk c.judge_request.result (Tells site d j)) (sym (message_is c.args.sets_df site d Request parses class_is))
+    (subst (λ (b : List ℕ). IfOk c.judge_request.result (Tells site b (requested c.args.sets_df site (method_of (type_field b)) b))) bytes c.judge_request.ensures.judged)
 
 pub returns-in-Indication-clause-judged : goal.returns-in-Indication-clause-judged
 returns-in-Indication-clause-judged g c =
@@ -28,5 +28,5 @@ returns-in-Indication-clause-judged g c =
     let bytes : message_bytes c.in-Ok.message ≡ d = search rules in
     let parses : parse_fault d ≡ None = search rules in
     let class_is : class_of (type_field d) ≡ Indication = search rules in
-    subst (λ (j : Judged). Tells site d j c.judge_indication.result) (sym (message_is site d Indication parses class_is))
-    (subst (λ (b : List ℕ). Tells site b (indicated (method_of (type_field b)) b) c.judge_indication.result) bytes (c.judge_indication.ensures site))
+    subst (λ (j : Judged). Tells site d j c.judge_indication.result) (sym (message_is c.args.sets_df site d Indication parses class_is))
+    (subst (λ (b : List ℕ). Tells site b (indicated c.args.sets_df (method_of (type_field b)) b) c.judge_indication.result) bytes (c.judge_indication.ensures site))

@@ -43,5 +43,5 @@ returns-clause-judged g c =
     let decides : Decides (credentials site d) c.in_ok-authentication.authentication =
     subst (λ (n : List ℕ → Known). Decides (long_term access.policy (text_bytes access.realm) n keys d) c.in_ok-authentication.authentication) nonces_are
     (subst (λ (r : List ℕ). Decides (long_term access.policy r (state_of c.nonces_of-nonces.result) keys d) c.in_ok-authentication.authentication) realm_is c.in_ok-authentication.ensures.decision) in
-    subst (λ (j : Judged). Tells site d j c.judge_decided.result) (sym (requested_is site (method_of (type_field d)) d other asks))
+    subst (λ (j : Judged). Tells site d j c.judge_decided.result) (sym (requested_is c.args.sets_df site (method_of (type_field d)) d other asks))
     (c.judge_decided.ensures site (credentials site d) (search rules) decides)

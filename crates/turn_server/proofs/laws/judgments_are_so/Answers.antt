@@ -6,5 +6,5 @@ pub returns-clause-each : goal.returns-clause-each
 returns-clause-each c = judgment_is_so
 
 pub returns-clause-asks : goal.returns-clause-asks
-returns-clause-asks c = λ last_channel relay site tuple d user request e.
-    asked_is_so site tuple tuple relay d user request (judge last_channel site d) (judgment_is_so last_channel site d) e
+returns-clause-asks c = λ last_channel sets_df site setup tuple h numbers d user request e.
+    asked_is_so setup sets_df site tuple tuple h numbers d user request (judge last_channel sets_df site d) (judgment_is_so last_channel sets_df site d) e

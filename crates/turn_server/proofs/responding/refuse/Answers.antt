@@ -14,4 +14,6 @@ returns c =
       written_is = subst (λ (a : SocketAddr). IsWritten true (no_room None 20 (refusal_sizes d c.args.refusal (Some (asked_by c.args.access.now c.args.now a)))) (refusal_of d c.args.refusal (Some (asked_by c.args.access.now c.args.now a))) c.args.buffer.now c.write_refusal.new.buffer c.write_refusal.result) c.from-client.ensures c.write_refusal.ensures;
       code_is = ap Some c.code.ensures;
       opened_is = refl;
+      reserved_is = refl;
+      claimed_is = refl;
     }

@@ -1,39 +1,13 @@
 -- The place of a key may go to another thread: what it owns of the key and of its memory may.
-use Rattle.std.specs.Prelude.{Option, Some, None}
-use mir.Raw.{raw}
-use base.Fraction.{full_share}
-use base.Shift.{Keyless}
-use denote.Exit.{Exit, unchanged, leaves, hidden, under}
-use denote.Memory.{lone}
-use denote.Param.Send.{IsSend, AllSend, Quiet, owning_send, struct_send, part_keyless, sendable}
-use denote.RawPtr.{Ptr, block_ptr, null_ptr, lies_at}
-use denote.Struct.Owning.{shape, fields, to}
-use denote.Struct.Struct.{exits_of}
-use Rattle.std.proofs.Crossing as heap
-use Rattle.std.proofs.alloc.Global.TheSendSync as handle
+use denote.Param.Send.{IsSend, sendable}
+use Rattle.std.proofs.alloc.Global.TheSendSync.{the_field_send}
 use Rattle.std.specs.contracts.alloc.Global.{the_row as Heap}
 use Rattle.stun_keys.specs.contracts.keys.integrity_key.IntegrityKey.{the_row as Key}
-use Rattle.stun_keys.proofs.keys.integrity_key.IntegrityKey.TheSendSync.{the_send as key_sends}
-use Rattle.stun_types_c.specs.KeyMemory.{owns_if_some}
-use Rattle.stun_types_c.specs.contracts.key_place.KeyPlace.{the_row, the_type}
+use Rattle.stun_keys.proofs.keys.integrity_key.IntegrityKey.TheSendSync.{the_send}
+use Rattle.stun_types_c.specs.contracts.key_place.KeyPlace as place
+use Rattle.stun_types_c.proofs.SendingLemmas.{owning_sends, kept}
 
--- the key in memory
-key_there : (p : Ptr) (key : Key.Denot) → Keyless (lies_at Key full_share p key)
-key_there (block_ptr b o) key = part_keyless Key key_sends full_share key b o
-key_there null_ptr key = tt
-
--- what a place owns
-owned : (p : Ptr) (alloc : Heap.Denot) (value : Option Key.Denot) → Keyless (owns_if_some alloc Key p value)
-owned p alloc None = tt
-owned p alloc (Some key) = (key_there p key, heap.frees.frees alloc (raw (lone Key.mir)) p)
-
-quiet : {D X : Type 0} (to : D → X) (e : Exit X) → Quiet e → Quiet (hidden (under to e))
-quiet to unchanged q = λ x w. tt
-quiet to (leaves L l S s r₀) q = λ d. q (to d)
-
-pub send : IsSend the_row
+pub send : IsSend place.the_row
 send =
-    let all : AllSend (fields the_type) = (search sendable, (handle.the_field_send, tt)) in
-    owning_send the_type all (λ place. owned place.at place.alloc place.value)
-    (λ k. quiet (to the_type) (exits_of k (fields the_type))
-    ((struct_send (shape the_type) all).leaving k))
+    owning_sends place.struct (place.the_codes Heap.coded) place.the_heap (search sendable, (the_field_send, tt))
+    (λ value. kept Key the_send value.alloc value.at value.value)

@@ -1,11 +1,9 @@
--- `of` takes over what the parts of a box own.
-use Rattle.std.proofs.Common.{◌≡◌, List, [], ◌∷◌, refl, ap, ◌∙◌}
-use mir.Raw.{raw as bare}
-use mir.Val.{Val, vptr}
-use base.Logic.{SProp, emp, never, fst∗}
+-- `of` takes over what the place owns.
+use Rattle.std.proofs.Common.{◌≡◌, List, [], ◌∷◌, refl}
+use mir.Val.{Val}
+use base.Logic.{SProp, emp}
 use base.Fml.{ftrue}
 use prog.Wp.{WpFn}
-use types.Logic.{sem}
 use types.Kit.{‵, raw, ◌⊛◌, ◌$◌, ◌∵◌, !, qed, by, move, keep, split, fsplit, fjoin, suffices, use0}
 use types.Run.{stop, fld, of_opd, no_more, and_then, returns, enter}
 use types.ByLocal.{alloc_all, pass_all, free_all, look_at, get, get_in, sets}
@@ -15,31 +13,28 @@ use contract.Running.{tables}
 use denote.Exit.{yes}
 use denote.RattleType.{owns}
 use denote.Signature.{types_at, plain}
-use denote.Param.{layout}
-use denote.RawPtr.{Ptr, block_ptr, null_ptr, ptr_val, in_a_block}
+use denote.RawPtr.{ptr_val}
 use denote.Steps.{nothing}
 use denote.Triple.Walked.{Stays, stay_dropped, walk_of}
-use Rattle.std.specs.Prelude.{Some}
-use Rattle.std.specs.Box.Ownership.{box_owns}
 use Rattle.std.proofs.alloc.Calls.{Goes-blank}
 use Rattle.std.proofs.alloc.Global.TheLaws as heap
 use Rattle.std.proofs.raw_atomic.Walks.{proved_at, leaves}
 use Rattle.std.specs.contracts.alloc.Global.{the_row as Heap}
 use Rattle.std.specs.contracts.impls.GlobalAllocator.TheImpl.{ghosts}
-use Rattle.stun_types_c.proofs.TwoWords.{at_one_word, two, two_typed, taken_apart, put_together}
+use Rattle.stun_types_c.proofs.TwoWords.{at_one_word, two, two_typed, ptr_typed, taken_apart, put_together}
 use Rattle.stun_types_c.specs.contracts.turn_core.TurnCore.{the_row as Core}
-use Rattle.stun_types_c.specs.contracts.box_parts.BoxParts as parts
+use Rattle.stun_types_c.specs.contracts.place.Place as place
 use Rattle.stun_types_c.specs.declared.turn_place.TurnPlace.{TurnPlace}
 use Rattle.stun_types_c.specs.contracts.turn_place.TurnPlace.of.{ended, clauses}
 use Rattle.stun_types_c.specs.contracts.turn_place.TurnPlace.of.Key.{name as own_name}
 use Rattle.stun_types_c.proofs.turn_place.TurnPlace.of.Statement.{statement}
 use Rattle.stun_types_c.proofs.turn_place.TurnPlace.of.Code as code
 
-abbrev Parts : denote.RattleType.RattleType
-Parts = parts.the_row Core Heap ghosts
+abbrev Taken : denote.RattleType.RattleType
+Taken = place.the_row Core Heap ghosts
 
 abbrev stayed : Stays ended.signature.params ended.kept
-stayed = (stay_dropped (plain (λ _. Parts)) yes, tt)
+stayed = (stay_dropped (plain (λ _. Taken)) yes, tt)
 
 pub of_spec : {M : Type 1} → statement M
 of_spec 𝓤 𝓛 𝓜 𝓡 wired =
@@ -47,30 +42,28 @@ of_spec 𝓤 𝓛 𝓜 𝓡 wired =
     let 𝓣 = tables 𝓤 H 𝓜 𝓡 𝓡.env in
     let c = clauses 𝓛 𝓜.mem 𝓡.returns in
     let fn = code.function in
-    proved_at 𝓛 ended stayed c 𝓜 𝓡 (Goes-blank 𝓛 0 (plain (λ _. Parts)) yes (λ κs x f. tt), tt)
+    proved_at 𝓛 ended stayed c 𝓜 𝓡 (Goes-blank 𝓛 0 (plain (λ _. Taken)) yes (λ κs x f. tt), tt)
     own_name fn (code.unfolded 𝓤 H 𝓜 𝓡 wired) (λ z are.
     let v = z.0.3.0 in
+    let p = v.at in
     let a = v.alloc in
     let Post : Val → SProp 𝓤 = (walk_of 𝓛 ended stayed c).post z in
     let Run : List Val → SProp 𝓤 = λ ws. WpFn 𝓤 H 𝓣.C 𝓣.Λ fn ws Post in
     qed 𝓛 ((‵ ftrue ⊛ ‵ (owns (types_at ended.signature.params z.0.0) z.0.3 z.0.4)) ∷ ‵ ftrue ∷ []) ∵
     split ! $ move ! (1 ∷ []) $ fsplit ! $ fsplit ! $
-    taken_apart Heap heap.the_row_laws ! v.at a z.0.4.0 (λ h pair fits. move ! (1 ∷ []) $
-    in_a_block ! v.at (λ p. box_owns (ghosts.dealloc_token a) Core p v.value)
-    (fst∗ 𝓤 (never 𝓤) (sem 𝓛 (ghosts.dealloc_token a (bare (layout Core)) null_ptr))) (λ b o at_b.
-    let w : Val = two (vptr b o) h in
-    let is : z.0.4.0 ≡ w ∷ [] = pair ∙ ap (λ (p : Ptr). two (ptr_val p) h ∷ []) at_b in
-    let typed = two_typed Heap b o h fits in
-    let made : TurnPlace = record { at = block_ptr b o; alloc = a; value = Some v.value } in
+    taken_apart Heap heap.the_row_laws ! p a z.0.4.0 (λ h is fits.
+    let w : Val = two (ptr_val p) h in
+    let typed = two_typed Heap p h fits in
+    let made : TurnPlace = record { at = p; alloc = a; value = v.value } in
     suffices ! (Run (w ∷ [])) (at_one_word 𝓤 Run is) $
     enter ! 𝓣.C 𝓣.Λ fn (w ∷ []) Post $ alloc_all ! (λ l. pass_all ! refl (typed, tt) $
-    sets ! (of_opd ! (get_in ! (fld ! refl (stop !)) (sub ! 0 refl (whole !)))) refl (tt, tt) $
+    sets ! (of_opd ! (get_in ! (fld ! refl (stop !)) (sub ! 0 refl (whole !)))) refl (ptr_typed p) $
     sets ! (of_opd ! (get_in ! (fld ! refl (stop !)) (sub ! 1 refl (whole !)))) refl fits $
-    sets ! (of_opd ! (get ! refl)) refl (tt, tt) $
+    sets ! (of_opd ! (get ! refl)) refl (ptr_typed p) $
     sets ! (agg ! (and_then ! (get ! refl) (and_then ! (get ! refl) (no_more !)))) refl typed $
-    -- [what the box owned; the allocator; the end of the parameters; the tokens; what was asked]
-    move ! (1 ∷ []) $ put_together Heap heap.the_row_laws ! (block_ptr b o) a h $ fjoin ! $
-    use0 𝓛 (raw (fact 𝓤 (made.value ≡ Some v.value)))
-    (fact_i 𝓤 (made.value ≡ Some v.value) (emp 𝓤) refl) $ nothing ! $ nothing ! $ fjoin ! $
+    -- [the allocator; what the place owned; the end of the parameters; the tokens; what was asked]
+    put_together Heap heap.the_row_laws ! p a h $ move ! (0 ∷ 1 ∷ []) $ fjoin ! $
+    use0 𝓛 (raw (fact 𝓤 (made.value ≡ v.value)))
+    (fact_i 𝓤 (made.value ≡ v.value) (emp 𝓤) refl) $ nothing ! $ nothing ! $ fjoin ! $
     returns ! (look_at ! 0 refl) $ free_all ! refl $ keep ! (4 ∷ 0 ∷ 2 ∷ 1 ∷ []) $
-    by ! (leaves 𝓛 ended stayed c z w made (tt, tt) (tt, tt))))))
+    by ! (leaves 𝓛 ended stayed c z w made (tt, tt) (tt, tt)))))

@@ -11,7 +11,7 @@ returns-in_err-slot-clause-none g c =
     rw (c.from_residual.ensures, ← c.self.view_is) (
       λ slot r at.
           let from = relay_from c.self.inside.slots.entries c.self.inside.kept.items slot r at in
-          subst (λ (x : Relay). c.self.inside.clock < x.until) from.relay (it.0 slot from.e from.entry),
+          subst (λ (x : Relay). c.self.inside.clock < x.expires_at) from.relay (it.0 slot from.e from.entry),
       ap (λ (s : State). record {
         clock = c.self.inside.clock;
         next = c.self.inside.next;

@@ -20,5 +20,5 @@ returns g c =
     let kept : get_or c.self.inside.kept.items c.args.slot None ≡ Some x =
     ap (λ (ks : List (Option Grants)). get_or ks c.args.slot None) (sym c.deref.ensures.value) ∙ sym c.in_ok-kept.ensures in
     rw (← c.self.view_is) (rw (relay_at c.self.inside.slots.entries c.self.inside.kept.items c.args.slot, joined_is e x (get_or c.self.inside.slots.entries c.args.slot None) (get_or c.self.inside.kept.items c.args.slot None) entry kept)
-    (ap (λ (z : Grants). Some (record { key = e.key; user = e.user; opened_by = z.opened_by; number = e.number; address = z.address; until = e.deadline })) c.kept.view_is
-    ∙ ap (λ (u : UserId). Some (record { key = e.key; user = u; opened_by = x.opened_by; number = e.number; address = x.address; until = e.deadline })) (sym c.users_are_numbers.ensures.user)))
+    (ap (λ (z : Grants). Some (record { key = e.key; user = e.user; transaction_id = z.transaction_id; number = e.number; address = z.address; expires_at = e.deadline })) c.kept.view_is
+    ∙ ap (λ (u : UserId). Some (record { key = e.key; user = u; transaction_id = x.transaction_id; number = e.number; address = x.address; expires_at = e.deadline })) (sym c.users_are_numbers.ensures.user)))

@@ -41,11 +41,11 @@ number_is result round slot e es old number is there found =
 pub invariant_of-self-2 : goal.invariant_of-self-2
 invariant_of-self-2 g c =
     let it = c.in_ok-slot.ensures.some in
-    let e : Entry = record { key = c.args.key; user = c.args.user; number = c.self.inside.slots.round * places + c.in_ok-slot.slot; deadline = c.args.until } in
+    let e : Entry = record { key = c.args.key; user = c.args.user; number = c.self.inside.slots.round * places + c.in_ok-slot.slot; deadline = c.args.expires_at } in
     let number = number_is c.number_in-number.result c.self.inside.slots.round c.in_ok-slot.slot e c.entries.result.now c.self.inside.slots.entries refl (c.entries.ensures ∙ ap (λ (s : State). s.entries) it.state) (get_or-set_same c.self.inside.slots.entries c.in_ok-slot.slot (Some e) None it.within) c.number_in-number.ensures in
     record {
       table = rw number (opened_table c.self.inside.next c.self.inside.slots c.self.inside.kept.items c.self.invariant.table c.in_ok-slot.slot e c.new.result it.within refl c.are_halves.ensures
-          (key_free c.args.key c.self.inside.slots.entries c.self.inside.kept.items c.self.invariant.table.beside (subst (λ (t : Table). Each t (λ r. is_for c.args.key.tuple c.args.key.family r ≡ false)) (sym c.self.view_is) c.requires.key)) c.requires.until c.open.new.self it.state);
+          (key_free c.args.key c.self.inside.slots.entries c.self.inside.kept.items c.self.invariant.table.beside (subst (λ (t : Table). Each t (λ r. is_for c.args.key.tuple c.args.key.family r ≡ false)) (sym c.self.view_is) c.requires.key)) c.requires.expires_at c.open.new.self it.state);
       early = c.self.invariant.early;
       permissions = c.self.invariant.permissions;
       channels = c.self.invariant.channels;
@@ -54,10 +54,10 @@ invariant_of-self-2 g c =
 pub returns-clause-some : goal.returns-clause-some
 returns-clause-some g c =
     let it = c.in_ok-slot.ensures.some in
-    let e : Entry = record { key = c.args.key; user = c.args.user; number = c.self.inside.slots.round * places + c.in_ok-slot.slot; deadline = c.args.until } in
+    let e : Entry = record { key = c.args.key; user = c.args.user; number = c.self.inside.slots.round * places + c.in_ok-slot.slot; deadline = c.args.expires_at } in
     let number = number_is c.number_in-number.result c.self.inside.slots.round c.in_ok-slot.slot e c.entries.result.now c.self.inside.slots.entries refl (c.entries.ensures ∙ ap (λ (s : State). s.entries) it.state) (get_or-set_same c.self.inside.slots.entries c.in_ok-slot.slot (Some e) None it.within) c.number_in-number.ensures in
-    let relay : relay_of e c.new.result ≡ opened c.args.key (user_number c.args.user) c.args.opened_by c.args.address c.args.until c.number_in-number.result =
-    ap (λ (x : Grants). relay_of e x) c.new.ensures ∙ ap (λ (n : ℕ). opened c.args.key (user_number c.args.user) c.args.opened_by c.args.address c.args.until n) (sym number) in
+    let relay : relay_of e c.new.result ≡ opened c.args.key (user_number c.args.user) c.args.transaction_id c.args.address c.args.expires_at c.number_in-number.result =
+    ap (λ (x : Grants). relay_of e x) c.new.ensures ∙ ap (λ (n : ℕ). opened c.args.key (user_number c.args.user) c.args.transaction_id c.args.address c.args.expires_at n) (sym number) in
     rw (← c.self.view_is) (
       c.in_ok-slot.slot,
       record {

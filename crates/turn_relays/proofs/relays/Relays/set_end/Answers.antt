@@ -9,21 +9,21 @@ use Rattle.turn_relays.proofs.SlotsLemmas.{relay_there, relay_missing, relays_ch
 use Rattle.turn_relays.proofs.relays.Relays.set_end.Goals as goal
 
 -- what `set_deadline` does
-abbrev Sets : (result : Bool) (slot until : ℕ) (old new : State) → Option Entry → Type 0
-Sets result slot until old new o =
+abbrev Sets : (result : Bool) (slot expires_at : ℕ) (old new : State) → Option Entry → Type 0
+Sets result slot expires_at old new o =
     MatchOption o ((result ≡ false) × (new ≡ old))
-    (λ e. (result ≡ true) × (new ≡ record old { entries = set old.entries slot (Some (record e { deadline = until })) }))
+    (λ e. (result ≡ true) × (new ≡ record old { entries = set old.entries slot (Some (record e { deadline = expires_at })) }))
 
 pub invariant_of-self : goal.invariant_of-self
 invariant_of-self g c =
     record {
       table = (elim (none_or_some (get_or c.self.inside.slots.entries c.args.slot None)) [
         | inl free ↦
-            let same = (subst (Sets c.set_deadline.result c.args.slot c.args.until c.self.inside.slots c.set_deadline.new.self) free c.set_deadline.ensures).1 in
+            let same = (subst (Sets c.set_deadline.result c.args.slot c.args.expires_at c.self.inside.slots c.set_deadline.new.self) free c.set_deadline.ensures).1 in
             subst (λ (z : State). IsTable c.self.inside.next z c.self.inside.kept.items) (sym same) c.self.invariant.table
         | inr it ↦
-            let new = (subst (Sets c.set_deadline.result c.args.slot c.args.until c.self.inside.slots c.set_deadline.new.self) it.1 c.set_deadline.ensures).1 in
-            changed_table c.self.inside.next c.self.inside.slots c.self.inside.kept.items c.self.invariant.table c.args.slot c.args.until it.0 it.1 c.requires c.set_deadline.new.self new
+            let new = (subst (Sets c.set_deadline.result c.args.slot c.args.expires_at c.self.inside.slots c.set_deadline.new.self) it.1 c.set_deadline.ensures).1 in
+            changed_table c.self.inside.next c.self.inside.slots c.self.inside.kept.items c.self.invariant.table c.args.slot c.args.expires_at it.0 it.1 c.requires c.set_deadline.new.self new
       ]);
       early = c.self.invariant.early;
       permissions = c.self.invariant.permissions;
@@ -34,7 +34,7 @@ pub returns : goal.returns
 returns g c =
     elim (none_or_some (get_or c.self.inside.slots.entries c.args.slot None)) [
       | inl free ↦
-          let same = (subst (Sets c.set_deadline.result c.args.slot c.args.until c.self.inside.slots c.set_deadline.new.self) free c.set_deadline.ensures).1 in
+          let same = (subst (Sets c.set_deadline.result c.args.slot c.args.expires_at c.self.inside.slots c.set_deadline.new.self) free c.set_deadline.ensures).1 in
           rw (← c.self.view_is) (rw (relay_missing c.self.inside.slots.entries c.self.inside.kept.items c.args.slot free)
           (ap (λ (s : State). record {
             clock = c.self.inside.clock;
@@ -44,7 +44,7 @@ returns g c =
             slots = relays_in s.entries c.self.inside.kept.items;
           }) same))
       | inr it ↦
-          let new = (subst (Sets c.set_deadline.result c.args.slot c.args.until c.self.inside.slots c.set_deadline.new.self) it.1 c.set_deadline.ensures).1 in
+          let new = (subst (Sets c.set_deadline.result c.args.slot c.args.expires_at c.self.inside.slots c.set_deadline.new.self) it.1 c.set_deadline.ensures).1 in
           let there = relay_there c.self.inside.slots.entries c.self.inside.kept.items c.self.invariant.table.beside c.args.slot it.0 it.1 in
           rw (← c.self.view_is) (rw there.2
           (ap (λ (s : State). record {
@@ -59,6 +59,6 @@ returns g c =
             openings = c.self.inside.slots.round;
             secret = c.self.inside.slots.secret;
             slots = rs;
-          }) (relays_changed c.self.inside.slots.entries c.self.inside.kept.items c.args.slot (record it.0 { deadline = c.args.until }) there.0
+          }) (relays_changed c.self.inside.slots.entries c.self.inside.kept.items c.args.slot (record it.0 { deadline = c.args.expires_at }) there.0
           (is_there c.self.inside.slots.entries c.args.slot it.0 it.1) there.1)))
     ]

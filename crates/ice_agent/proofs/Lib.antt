@@ -1,0 +1,4 @@
+mod WritingLemmas
+mod ReadyLemmas
+mod RunsLemmas
+mod ReceivingLemmas

@@ -1,0 +1,8 @@
+use Rattle.std.proofs.Common.{◌∙◌, refl, ap}
+use Rattle.ice_machine.specs.Events.{ends}
+use Rattle.ice_agent_state.specs.Agents.{Held}
+use Rattle.ice_agent.proofs.ReadyLemmas.{ready_stays}
+use Rattle.ice_agent.proofs.agent.Agent.end_candidates.Goals as goal
+
+pub invariant_of-self : goal.invariant_of-self
+invariant_of-self c = ap (λ (h : Held). h.state.ready) (c.end_candidates.ensures) ∙ (ready_stays c.self.inside.state c.args.now 0 ends refl ∙ c.self.invariant)

@@ -1,0 +1,5 @@
+pub mod Agents
+pub mod Writing
+pub mod Receiving
+pub mod Sending
+pub mod Runs

@@ -1,0 +1,30 @@
+//! What holds of every agent, and of all that comes in whatever order. Each function does nothing: its contract is
+//! the law.
+
+ghost use Rattle.std.specs.Prelude.{◌≡◌, ℕ, List};
+ghost use Rattle.ice_machine.specs.Runs.{Begin, history, run};
+ghost use Rattle.ice_machine.specs.Steps.{at};
+ghost use Rattle.ice_machine.specs.Warrants.{IsRight};
+ghost use Rattle.ice_agent_state.specs.Agents.{output_at};
+ghost use Rattle.ice_agent.specs.Agents.{Agent};
+ghost use Rattle.ice_agent.specs.Runs.{Call, IsBegun, Moment, after_all, event_in, fresh_in, timed_all};
+
+use ice_machine::sending_is_warranted;
+
+/// Whatever is called and comes in whatever order: the state of an agent is that of the machine after the events
+/// that the calls and datagrams are. Each output, a request, a response, data to the peer, or data of the peer that
+/// is shown, is warranted by what came before, as `ice_machine` has it: data goes only to an address from which,
+/// less than 30 seconds ago, an authentic success response came to a request that the agent had sent there less
+/// than 30 seconds before that (RFC 7675, section 5.1).
+pub fn datagrams_are_warranted()
+    ensures state { (begin : Begin) (agent : Agent) (moments : List Moment) → IsBegun begin agent
+        → (after_all agent moments).held.state
+        ≡ run agent.held.setup begin (timed_all agent moments) }
+    ensures right { (begin : Begin) (agent : Agent) (earlier : List Moment) (now fresh : ℕ) (call : Call)
+        → IsBegun begin agent → let setup = agent.held.setup in
+        let before = after_all agent earlier in
+        IsRight (history setup begin (timed_all agent earlier)) (at setup now before.held.state).clock
+        (event_in before call) (output_at now (fresh_in fresh call) (event_in before call) before.held) }
+{
+    sending_is_warranted();
+}

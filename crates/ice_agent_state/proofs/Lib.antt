@@ -1,0 +1,6 @@
+pub mod TriedLemmas
+pub mod ListsLemmas
+pub mod PairsLemmas
+pub mod AskedLemmas
+pub mod WakingLemmas
+pub mod ReportsLemmas

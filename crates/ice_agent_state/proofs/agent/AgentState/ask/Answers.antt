@@ -1,0 +1,119 @@
+use Rattle.std.proofs.Common.{◌≡◌, ℕ, ◌+◌, ◌≤◌, ◌∷◌, List, Some, length, take, drop, ◌++◌, max, ap, ◌∙◌, sym, subst, arith, rules}
+use Rattle.std.specs.List.{AllByRecursion}
+use Rattle.ice_machine.specs.declared.pairs.Pair.{Pair}
+use Rattle.ice_machine.specs.declared.messages.Request.{Request}
+use Rattle.ice_machine.specs.Agents.{is_at}
+use Rattle.ice_machine.specs.Checks.{asked, request_on, most_urgent}
+use Rattle.ice_machine.specs.Steps.{changed_first, asks_on}
+use Rattle.ice_machine.specs.Bounds.{AreDistinct}
+use Rattle.ice_agent_state.specs.Agents.{Held, setup_of, IsSettled}
+use Rattle.ice_agent_state.specs.Tried.{IsTried}
+use Rattle.ice_agent_state.proofs.ListsLemmas.{take_written, take_few}
+use Rattle.ice_agent_state.proofs.AskedLemmas.{AskFacts, ask_changes, changed_length}
+use Rattle.ice_agent_state.proofs.agent.AgentState.ask.Goals as goal
+
+pub asked-asked-requires : goal.asked-asked-requires
+asked-asked-requires c =
+    let most = max 1 c.self.inside.settings.most_tries in
+    let held : Held = record {
+      setup = setup_of c.self.inside.settings;
+      state = record {
+        clock = c.self.inside.clock;
+        role = c.self.inside.role;
+        tiebreaker = c.self.inside.tiebreaker;
+        ready = c.self.inside.ready;
+        ended = c.self.inside.ended;
+        bases = c.self.inside.bases.items;
+        remotes = c.self.inside.remotes.items;
+        pairs = c.self.inside.pairs.items;
+        requests = c.self.inside.requests.items;
+        next_request_at = c.self.inside.next_request_at;
+      };
+    } in
+    let settled_by : IsSettled held = subst IsSettled (sym c.self.view_is) c.requires.settled in
+    let urgent : most_urgent held.setup held.state ≡ Some c.args.pair = subst (λ (z : Held). most_urgent z.setup z.state ≡ Some c.args.pair) (sym c.self.view_is) c.requires.urgent in
+    let facts : AskFacts held most c.args.id c.args.pair = ask_changes held most c.args.id c.args.pair settled_by c.self.invariant.distinct c.self.invariant.tried (omega arith) (omega arith) urgent in
+    let few = facts.few in
+    let tries = c.self.invariant.tries in
+    omega (arith, few, tries)
+
+pub invariant_of-self : goal.invariant_of-self
+invariant_of-self c =
+    let most = max 1 c.self.inside.settings.most_tries in
+    let held : Held = record {
+      setup = setup_of c.self.inside.settings;
+      state = record {
+        clock = c.self.inside.clock;
+        role = c.self.inside.role;
+        tiebreaker = c.self.inside.tiebreaker;
+        ready = c.self.inside.ready;
+        ended = c.self.inside.ended;
+        bases = c.self.inside.bases.items;
+        remotes = c.self.inside.remotes.items;
+        pairs = c.self.inside.pairs.items;
+        requests = c.self.inside.requests.items;
+        next_request_at = c.self.inside.next_request_at;
+      };
+    } in
+    let settled_by : IsSettled held = subst IsSettled (sym c.self.view_is) c.requires.settled in
+    let urgent : most_urgent held.setup held.state ≡ Some c.args.pair = subst (λ (z : Held). most_urgent z.setup z.state ≡ Some c.args.pair) (sym c.self.view_is) c.requires.urgent in
+    let facts : AskFacts held most c.args.id c.args.pair = ask_changes held most c.args.id c.args.pair settled_by c.self.invariant.distinct c.self.invariant.tried (omega arith) (omega arith) urgent in
+    let items = c.self.inside.pairs.items in
+    let e : c.asked-asked.result ≡ asked held.setup held.state c.args.id c.args.pair = subst (λ (z : Held). c.asked-asked.result ≡ asked z.setup z.state c.args.id c.args.pair) (sym c.self.view_is) c.asked-asked.ensures in
+    let put : c.replace.new.pairs ≡ changed_first (is_at c.args.pair.base c.args.pair.remote) (λ _. c.asked-asked.result) items = search rules in
+    let is : c.replace.new.pairs ≡ changed_first (is_at c.args.pair.base c.args.pair.remote) (λ _. asked held.setup held.state c.args.id c.args.pair) items = subst (λ (y : Pair). c.replace.new.pairs ≡ changed_first (is_at c.args.pair.base c.args.pair.remote) (λ _. y) items) e put in
+    let length_is : length c.replace.new.pairs ≡ length items = ap (λ (ps : List Pair). length ps) is ∙ changed_length (is_at c.args.pair.base c.args.pair.remote) (λ _. asked held.setup held.state c.args.id c.args.pair) items in
+    let all : c.self.inside.pairs.len ≡ length items = search rules in
+    let written = sym is ∙ take_written c.replace.new.pairs items c.self.inside.pairs.len length_is all in
+    let same = c.keep.ensures.capacity in
+    let room = c.self.invariant.requests in
+    record {
+      early = c.self.invariant.early;
+      bases = c.self.invariant.bases;
+      remotes = c.self.invariant.remotes;
+      pairs = c.self.invariant.pairs;
+      requests = omega (arith, same, room);
+      few = subst (λ (rs : List Request). length rs ≤ c.self.inside.settings.most_requests) (sym c.keep.ensures.items) (take_few c.self.inside.settings.most_requests (c.request_on-request.result ∷ c.self.inside.requests.items));
+      tries = c.self.invariant.tries;
+      distinct = subst AreDistinct written facts.distinct;
+      tried = subst (AllByRecursion (IsTried most)) written facts.tried;
+    }
+
+pub returns-clause-state : goal.returns-clause-state
+returns-clause-state c =
+    let most = max 1 c.self.inside.settings.most_tries in
+    let held : Held = record {
+      setup = setup_of c.self.inside.settings;
+      state = record {
+        clock = c.self.inside.clock;
+        role = c.self.inside.role;
+        tiebreaker = c.self.inside.tiebreaker;
+        ready = c.self.inside.ready;
+        ended = c.self.inside.ended;
+        bases = c.self.inside.bases.items;
+        remotes = c.self.inside.remotes.items;
+        pairs = c.self.inside.pairs.items;
+        requests = c.self.inside.requests.items;
+        next_request_at = c.self.inside.next_request_at;
+      };
+    } in
+    let settled_by : IsSettled held = subst IsSettled (sym c.self.view_is) c.requires.settled in
+    let urgent : most_urgent held.setup held.state ≡ Some c.args.pair = subst (λ (z : Held). most_urgent z.setup z.state ≡ Some c.args.pair) (sym c.self.view_is) c.requires.urgent in
+    let facts : AskFacts held most c.args.id c.args.pair = ask_changes held most c.args.id c.args.pair settled_by c.self.invariant.distinct c.self.invariant.tried (omega arith) (omega arith) urgent in
+    let items = c.self.inside.pairs.items in
+    let e : c.asked-asked.result ≡ asked held.setup held.state c.args.id c.args.pair = subst (λ (z : Held). c.asked-asked.result ≡ asked z.setup z.state c.args.id c.args.pair) (sym c.self.view_is) c.asked-asked.ensures in
+    let put : c.replace.new.pairs ≡ changed_first (is_at c.args.pair.base c.args.pair.remote) (λ _. c.asked-asked.result) items = search rules in
+    let is : c.replace.new.pairs ≡ changed_first (is_at c.args.pair.base c.args.pair.remote) (λ _. asked held.setup held.state c.args.id c.args.pair) items = subst (λ (y : Pair). c.replace.new.pairs ≡ changed_first (is_at c.args.pair.base c.args.pair.remote) (λ _. y) items) e put in
+    let length_is : length c.replace.new.pairs ≡ length items = ap (λ (ps : List Pair). length ps) is ∙ changed_length (is_at c.args.pair.base c.args.pair.remote) (λ _. asked held.setup held.state c.args.id c.args.pair) items in
+    let all : c.self.inside.pairs.len ≡ length items = search rules in
+    let written = sym is ∙ take_written c.replace.new.pairs items c.self.inside.pairs.len length_is all in
+    let r : c.request_on-request.result ≡ request_on held.setup held.state c.args.id c.args.pair = subst (λ (z : Held). c.request_on-request.result ≡ request_on z.setup z.state c.args.id c.args.pair) (sym c.self.view_is) c.request_on-request.ensures in
+    let state_of : List Pair → List Request → ℕ → Held = λ ps rs n. record held { state = record held.state { pairs = ps; requests = rs; next_request_at = n } } in
+    let kept : c.keep.new.xs.items ≡ take c.self.inside.settings.most_requests (request_on held.setup held.state c.args.id c.args.pair ∷ c.self.inside.requests.items)
+    = c.keep.ensures.items ∙ ap (λ (x : Request). take c.self.inside.settings.most_requests (x ∷ c.self.inside.requests.items)) r in
+    subst (λ (z : Held). state_of (take c.self.inside.pairs.len (c.replace.new.pairs ++ drop (length c.replace.new.pairs) items)) c.keep.new.xs.items (c.self.inside.clock + c.pace_of.result)
+    ≡ record z { state = (asks_on z.setup c.args.id z.state c.args.pair).state }) c.self.view_is
+    (ap (λ (ps : List Pair). state_of ps c.keep.new.xs.items (c.self.inside.clock + c.pace_of.result)) (sym written ∙ facts.same)
+    ∙ ap (λ (rs : List Request). state_of (changed_first (is_at c.args.pair.base c.args.pair.remote) (asked held.setup held.state c.args.id) items) rs (c.self.inside.clock + c.pace_of.result)) kept
+    ∙ ap (λ (n : ℕ). state_of (changed_first (is_at c.args.pair.base c.args.pair.remote) (asked held.setup held.state c.args.id) items)
+    (take c.self.inside.settings.most_requests (request_on held.setup held.state c.args.id c.args.pair ∷ c.self.inside.requests.items)) (c.self.inside.clock + n)) c.pace_of.ensures.value)

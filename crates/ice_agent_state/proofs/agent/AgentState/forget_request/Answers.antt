@@ -1,0 +1,24 @@
+use Rattle.std.proofs.Common.{◌≤◌, List, length, sym, subst, arith}
+use Rattle.std.specs.Prelude.{not}
+use Rattle.ice_machine.specs.declared.messages.Request.{Request}
+use Rattle.ice_machine.specs.Steps.{is_request}
+use Rattle.ice_agent_state.proofs.ListsLemmas.{filter_few}
+use Rattle.ice_agent_state.proofs.agent.AgentState.forget_request.Goals as goal
+
+pub invariant_of-self : goal.invariant_of-self
+invariant_of-self c =
+    let fewer = filter_few (λ (r : Request). not (is_request c.args.id r)) c.self.inside.requests.items in
+    let few = c.self.invariant.few in
+    let room = c.self.invariant.requests in
+    let same = c.end_waiting.ensures.capacity in
+    record {
+      early = c.self.invariant.early;
+      bases = c.self.invariant.bases;
+      remotes = c.self.invariant.remotes;
+      pairs = c.self.invariant.pairs;
+      requests = omega (arith, same, room);
+      few = subst (λ (rs : List Request). length rs ≤ c.self.inside.settings.most_requests) (sym c.end_waiting.ensures.items) (omega (arith, fewer, few));
+      tries = c.self.invariant.tries;
+      distinct = c.self.invariant.distinct;
+      tried = c.self.invariant.tried;
+    }

@@ -1,0 +1,18 @@
+use Rattle.std.proofs.Common.{◌≡◌, ◌++◌, ◌<◌, List, length, take, drop, set, get_or, true, sym, ap, ◌∙◌, arith}
+use Rattle.ice_machine.specs.declared.pairs.Pair.{Pair}
+use Rattle.ice_machine.specs.Agents.{is_at}
+use Rattle.ice_machine.specs.Steps.{changed_first, heard}
+use Rattle.ice_agent_state.proofs.PairsLemmas.{no_pair}
+use Rattle.ice_agent_state.proofs.AskedLemmas.{first_here}
+use Rattle.ice_agent_state.proofs.checking.hear_on.Goals as goal
+
+pub returns-then-is_at : goal.returns-then-is_at
+returns-then-is_at c =
+    let test = is_at c.args.check.now.base c.args.check.now.from in
+    let change = heard c.args.role c.args.check.now in
+    let lt : c.loop-i.i < length c.loop-i.pairs = omega arith in
+    let passes : test (get_or c.loop-i.pairs c.loop-i.i no_pair) ≡ true = sym c.is_at.ensures ∙ c.if-is_at.true in
+    ap (λ (y : Pair). set c.loop-i.pairs c.loop-i.i y) c.heard.ensures
+    ∙ first_here test change c.loop-i.pairs c.loop-i.i no_pair lt passes
+    ∙ ap (λ (zs : List Pair). take c.loop-i.i zs ++ changed_first test change (drop c.loop-i.i zs)) c.loop-i.invariant.same
+    ∙ sym c.loop-i.invariant.so_far

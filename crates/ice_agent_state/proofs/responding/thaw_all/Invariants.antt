@@ -1,0 +1,8 @@
+use Rattle.std.proofs.Common.{◌≡◌, ◌++◌, take, drop, map}
+use Rattle.ice_machine.specs.declared.pairs.Pair.{Pair}
+use Rattle.ice_machine.specs.Steps.{thaws}
+use Rattle.ice_agent_state.proofs.responding.thaw_all.Given as goal
+
+abbrev pub invariant-loop-i : goal.invariant-loop-i
+invariant-loop-i l = l.pairs
+    ≡ map {B = Pair} (thaws l.kin) (take l.i l.initial.pairs) ++ drop l.i l.initial.pairs

@@ -1,0 +1,9 @@
+pub mod Agents
+pub mod Tried
+pub mod Best
+pub mod Outputs
+pub mod Changes
+pub mod Waking
+pub mod Statuses
+pub mod Reports
+pub mod Restarts

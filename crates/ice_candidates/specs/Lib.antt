@@ -1,0 +1,11 @@
+pub mod Chars
+pub mod Candidates
+pub mod Words
+pub mod Fields
+pub mod Reading
+pub mod Texts
+pub mod Views
+pub mod Lines
+pub mod LineViews
+pub mod Grammar
+pub mod LineTexts

@@ -1,0 +1,9 @@
+mod SignedLemmas
+mod ChecksLemmas
+mod AddressesLemmas
+mod ResponsesLemmas
+mod MeansLemmas
+mod CallsLemmas
+mod RunsLemmas
+mod NumberedLemmas
+mod MeetingLemmas

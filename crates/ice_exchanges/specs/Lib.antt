@@ -1,0 +1,5 @@
+pub mod Peers
+pub mod Datagrams
+pub mod Consents
+pub mod Silences
+pub mod Meetings

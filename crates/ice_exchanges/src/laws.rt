@@ -1,0 +1,15 @@
+//! The laws. Each function does nothing: its contract is the law.
+
+mod judging;
+mod lasting;
+mod meeting;
+mod sending;
+mod settled;
+
+pub use judging::{checks_are_judged, conflicts_are_judged, successes_are_judged};
+pub use lasting::{
+    checks_are_followed, consent_is_kept, consent_lasts, nominations_follow, runs_are_the_machines,
+};
+pub use meeting::agents_will_meet;
+pub use sending::{data_is_consented, silence_gets_little, strangers_change_nothing};
+pub use settled::{agent_is_bounded, lost_consent_is_final, selection_is_agreed};

@@ -1,0 +1,13 @@
+mod ListsLemmas
+mod ReceivingLemmas
+mod KeptLemmas
+mod RunsLemmas
+mod HistoriesLemmas
+mod JudgedLemmas
+mod RespondingLemmas
+mod WarrantsLemmas
+mod StrangersLemmas
+mod LastingLemmas
+mod WakingLemmas
+mod ServingLemmas
+mod HearingLemmas

@@ -1,0 +1,9 @@
+pub mod Clients
+pub mod Receiving
+pub mod Sending
+pub mod Runs
+pub mod Histories
+pub mod Warrants
+pub mod Strangers
+pub mod Lasting
+pub mod Attempts

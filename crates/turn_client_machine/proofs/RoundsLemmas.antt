@@ -1,0 +1,609 @@
+-- A client whose requests are granted at once goes on for ever.
+use Rattle.std.proofs.Common.{◌≡◌, ℕ, zero, suc, ◌+◌, ◌<◌, ◌≤◌, inl, inr, ◌⊎◌, Bool, true, false, not, ◌&&◌, ◌||◌, List, [], ◌∷◌, ◌++◌, length, map, Option, None, Some, refl, sym, ap, subst, ◌∙◌, arith, find, eq-eqb}
+use mathlib.Core.Logic.{⊎_elim}
+use Rattle.std.specs.List.{AllByRecursion, list_any}
+use Rattle.std.specs.Option.{option_map_or}
+use Rattle.std.specs.Prelude.{◌==◌, max, is_some, if◌then◌else◌}
+use Rattle.std.proofs.lemmas.Bool.{cond_both, cond-true, cond-false, and_from, and_right, or_left, or_right, or_cases, leb-false, lt-ltb, lt-leb, le-leb, cases_Bool, and_parts, not-true}
+use Rattle.stun_endpoints.proofs.AddressesLemmas.{endpoint_is_itself}
+use Rattle.turn_client_machine.specs.Clients.{Endpoint, is_ip, is_endpoint, seconds, Setup, Kind, Allocate, Refresh, Delete, Permit, Bind, Request, Pending, Phase, Allocated, Task, Peer, State, is_allocated, is_active, is_peer, is_dropped, Useless}
+use Rattle.turn_client_machine.specs.Events.{Answer, Extended, Done, responds, polls, Output, asks, send_to, send_on, shows, nothing}
+use Rattle.turn_client_machine.specs.Tasks.{awaits, is_due, is_expired, sent_task, turn_output}
+use Rattle.turn_client_machine.specs.Responses.{changed_first, reopened, opened, extended, granted, granted_by, awaits_of, answered_any, answered_peer, deletes, is_long}
+use Rattle.turn_client_machine.specs.Steps.{keeps, at, turns, is_due_of, kind_of, turned_of, turns_peer, polled, kind_in, step, counted, is_next, is_free, is_under_way, peers_polled}
+use Rattle.turn_client_machine.specs.Renewing.{IsTurn, new_request}
+use Rattle.turn_client_machine.specs.Runs.{Timed, run}
+use Rattle.turn_client_machine.specs.Working.{dues}
+use Rattle.turn_client_machine.specs.Lasting.{IsInTime, IsOn}
+use Rattle.turn_client_machine.specs.Reach.{IsUsable, IsPunctual}
+use Rattle.turn_client_machine.specs.Rounds.{success_to, replied, replied_to, exchange, exchanges, rounds, reply_events, exchanges_events, rounds_events, AreClose, IsCalmPeer, IsCalm}
+use Rattle.turn_client_machine.proofs.ListsLemmas.{found, each_map}
+use Rattle.turn_client_machine.proofs.WorkingLemmas.{count_none, none_counted}
+use Rattle.turn_client_machine.proofs.NumbersLemmas.{length-changed_first, IsSame, turned_same, PeersKeep, no_names, happens_peers}
+use Rattle.turn_client_machine.proofs.RenewingLemmas.{one_renews, Asked, peer_asked, output_asked, main_asked, main_answered}
+
+-- ---- A peer that is due, after its request was granted
+
+abbrev Final : Setup → State → (fresh : ℕ) → List Peer → List Peer
+Final setup state fresh ps = changed_first (awaits_of fresh) granted (changed_first (is_due_of state.clock) (turned_of setup state.clock fresh state.challenge) ps)
+
+-- it isn't too late for any
+abbrev pub InTime : (clock late : ℕ) → Peer → Type 0
+InTime clock late p = p.over ≡ false → clock ≤ p.task.due + late
+
+-- what is due isn't over
+due_on : (clock : ℕ) (p : Peer) → is_due_of clock p ≡ true → p.over ≡ false
+due_on clock p due = not-true p.over (and_parts (not p.over) (is_due clock p.task) due).0
+
+final_due : (setup : Setup) (state : State) (fresh late : ℕ) (p : Peer) (ps : List Peer) → 0 < setup.most_sends → late < seconds 20 → IsCalmPeer state.clock p → InTime state.clock late p → is_due_of state.clock p ≡ true
+    → Final setup state fresh (p ∷ ps) ≡ granted (Asked setup state fresh p) ∷ ps
+final_due setup state fresh late p ps some less calm soon due =
+    let turn = turned_of setup state.clock fresh state.challenge in
+    let on = due_on state.clock p due in
+    let time = calm.time on in
+    let here = soon on in
+    let fit : is_expired state.clock p.task ≡ false = lt-leb p.task.deadline state.clock (omega (arith, time, here, less)) in
+    ap (changed_first (awaits_of fresh) granted) (cond-true (is_due_of state.clock p) (turn p ∷ ps) (p ∷ changed_first (is_due_of state.clock) turn ps) due ∙ ap (λ (y : Peer). y ∷ ps) (peer_asked setup state fresh p some fit calm.free))
+    ∙ cond-true (fresh == fresh) (granted (Asked setup state fresh p) ∷ ps) (Asked setup state fresh p ∷ changed_first (awaits_of fresh) granted ps) (eq-eqb fresh fresh refl)
+
+idle_awaits : (fresh : ℕ) (p : Peer) → p.task.pending ≡ None → awaits_of fresh p ≡ false
+idle_awaits fresh p free = ap (λ (o : Option Pending). option_map_or (λ (q : Pending). q.request.id == fresh) o false) free
+
+final_idle : (setup : Setup) (state : State) (fresh : ℕ) (p : Peer) (ps : List Peer) → IsCalmPeer state.clock p → is_due_of state.clock p ≡ false → Final setup state fresh (p ∷ ps) ≡ p ∷ Final setup state fresh ps
+final_idle setup state fresh p ps calm idle =
+    let turn = turned_of setup state.clock fresh state.challenge in
+    let rest = changed_first (is_due_of state.clock) turn ps in
+    ap (changed_first (awaits_of fresh) granted) (cond-false (is_due_of state.clock p) (turn p ∷ ps) (p ∷ rest) idle)
+    ∙ cond-false (awaits_of fresh p) (granted p ∷ rest) (p ∷ changed_first (awaits_of fresh) granted rest) (idle_awaits fresh p calm.free)
+
+-- what a peer is after it was granted
+record IsFresh (clock : ℕ) (p : Peer) : Type 0 where
+  calm : IsCalmPeer clock p
+  some : 0 < p.expires_at
+  later : clock < p.task.due
+
+permit_fresh : (clock : ℕ) (r : Request) (p : Peer) (t : Task) (address : Endpoint) → r.since ≡ clock → IsCalmPeer clock p → IsFresh clock (granted_by r (Permit address) (record p { task = t }))
+permit_fresh clock r p t address since calm = record {
+  calm = record {
+    asked = λ _. inl (omega arith);
+    free = refl;
+    time = λ _. omega arith;
+    ends = λ _ _. omega arith;
+  };
+  some = omega arith;
+  later = omega (arith, since);
+}
+
+bind_fresh : (clock : ℕ) (r : Request) (p : Peer) (t : Task) (number : ℕ) (address : Endpoint) → r.since ≡ clock → IsCalmPeer clock p → IsFresh clock (granted_by r (Bind number address) (record p { task = t }))
+bind_fresh clock r p t number address since calm = record {
+  calm = record {
+    asked = λ _. inl (omega arith);
+    free = refl;
+    time = λ _. omega arith;
+    ends = λ _ _. omega arith;
+  };
+  some = omega arith;
+  later = omega (arith, since);
+}
+
+granted_fresh : (setup : Setup) (state : State) (fresh : ℕ) (p : Peer) → IsCalmPeer state.clock p → IsFresh state.clock (granted (Asked setup state fresh p))
+granted_fresh setup state fresh p calm =
+    cond_both p.wants (Bind p.number p.address) (Permit p.address) (λ (k : Kind). IsFresh state.clock (granted_by (new_request state fresh (kind_of p)) k (Asked setup state fresh p)))
+    (λ _. bind_fresh state.clock (new_request state fresh (kind_of p)) p (sent_task setup state.clock (new_request state fresh (kind_of p)) p.task) p.number p.address refl calm)
+    (λ _. permit_fresh state.clock (new_request state fresh (kind_of p)) p (sent_task setup state.clock (new_request state fresh (kind_of p)) p.task) p.address refl calm)
+
+-- ---- The peers
+
+pub record IsKept (clock late : ℕ) (p : Peer) : Type 0 where
+  pub calm : IsCalmPeer clock p
+  pub soon : InTime clock late p
+
+fresh_kept : (clock late : ℕ) (p : Peer) → IsFresh clock p → IsKept clock late p
+fresh_kept clock late p f = record { calm = f.calm; soon = λ _. let later = f.later in omega (arith, later) }
+
+final_each : (setup : Setup) (state : State) (fresh late : ℕ) (ps : List Peer) → 0 < setup.most_sends → late < seconds 20 → AllByRecursion (IsKept state.clock late) ps → AllByRecursion (IsKept state.clock late) (Final setup state fresh ps)
+final_each setup state fresh late [] some less each = tt
+final_each setup state fresh late (p ∷ ps) some less each = ⊎_elim
+    (λ due. subst (AllByRecursion (IsKept state.clock late)) (sym (final_due setup state fresh late p ps some less each.0.calm each.0.soon due))
+    (fresh_kept state.clock late (granted (Asked setup state fresh p)) (granted_fresh setup state fresh p each.0.calm), each.1))
+    (λ idle. subst (AllByRecursion (IsKept state.clock late)) (sym (final_idle setup state fresh p ps each.0.calm idle)) (each.0, final_each setup state fresh late ps some less each.1))
+    (cases_Bool (is_due_of state.clock p))
+
+fresh_idle : (clock : ℕ) (p : Peer) → IsFresh clock p → is_due_of clock p ≡ false
+fresh_idle clock p f = and_right (not p.over) (is_due clock p.task) (lt-leb p.task.due clock f.later)
+
+final_count : (setup : Setup) (state : State) (fresh late : ℕ) (ps : List Peer) (q : Peer) → 0 < setup.most_sends → late < seconds 20 → AllByRecursion (IsKept state.clock late) ps → find (is_due_of state.clock) ps ≡ Some q
+    → counted (is_due_of state.clock) (Final setup state fresh ps) < counted (is_due_of state.clock) ps
+final_count setup state fresh late [] q some less each found = absurd cc
+final_count setup state fresh late (p ∷ ps) q some less each found =
+    let test = is_due_of state.clock in
+    cond_both (test p) (Some p) (find test ps) (λ (o : Option Peer). o ≡ Some q → counted test (Final setup state fresh (p ∷ ps)) < counted test (p ∷ ps))
+    (λ due _.
+    let g = granted (Asked setup state fresh p) in
+    let one : counted test (p ∷ ps) ≡ 1 + counted test ps = cond-true (test p) (1 + counted test ps) (counted test ps) due in
+    let none : counted test (g ∷ ps) ≡ counted test ps = cond-false (test g) (1 + counted test ps) (counted test ps) (fresh_idle state.clock g (granted_fresh setup state fresh p each.0.calm)) in
+    let same = ap (counted test) (final_due setup state fresh late p ps some less each.0.calm each.0.soon due) in
+    omega (arith, one, none, same))
+    (λ idle e.
+    let more = final_count setup state fresh late ps q some less each.1 e in
+    let rest = Final setup state fresh ps in
+    let one : counted test (p ∷ ps) ≡ counted test ps = cond-false (test p) (1 + counted test ps) (counted test ps) idle in
+    let two : counted test (p ∷ rest) ≡ counted test rest = cond-false (test p) (1 + counted test rest) (counted test rest) idle in
+    let same = ap (counted test) (final_idle setup state fresh p ps each.0.calm idle) in
+    omega (arith, more, one, two, same))
+    found
+
+-- no exchange gives up a peer
+granted_by_on : (named : Endpoint) (r : Request) (kind : Kind) (p : Peer) → IsOn named p → IsOn named (granted_by r kind p)
+granted_by_on named r Allocate p on = on
+granted_by_on named r Refresh p on = on
+granted_by_on named r Delete p on = on
+granted_by_on named r (Permit address) p on = on
+granted_by_on named r (Bind number address) p on = on
+
+granted_on : (named : Endpoint) (p : Peer) (o : Option Pending) → IsOn named p → IsOn named (option_map_or (λ (q : Pending). granted_by q.request q.request.kind p) o p)
+granted_on named p None on = on
+granted_on named p (Some q) on = granted_by_on named q.request q.request.kind p on
+
+final_on : (named : Endpoint) (setup : Setup) (state : State) (fresh late : ℕ) (ps : List Peer) → 0 < setup.most_sends → late < seconds 20 → AllByRecursion (IsKept state.clock late) ps → AllByRecursion (IsOn named) ps → AllByRecursion (IsOn named) (Final setup state fresh ps)
+final_on named setup state fresh late [] some less each on = tt
+final_on named setup state fresh late (p ∷ ps) some less each on = ⊎_elim
+    (λ due. subst (AllByRecursion (IsOn named)) (sym (final_due setup state fresh late p ps some less each.0.calm each.0.soon due))
+    (granted_on named (Asked setup state fresh p) (Asked setup state fresh p).task.pending on.0, on.1))
+    (λ idle. subst (AllByRecursion (IsOn named)) (sym (final_idle setup state fresh p ps each.0.calm idle)) (on.0, final_on named setup state fresh late ps some less each.1 on.1))
+    (cases_Bool (is_due_of state.clock p))
+
+length_final : (setup : Setup) (state : State) (fresh : ℕ) (ps : List Peer) → length (Final setup state fresh ps) ≡ length ps
+length_final setup state fresh ps = length-changed_first (awaits_of fresh) granted (changed_first (is_due_of state.clock) (turned_of setup state.clock fresh state.challenge) ps)
+    ∙ length-changed_first (is_due_of state.clock) (turned_of setup state.clock fresh state.challenge) ps
+
+-- ---- One exchange
+
+-- the clock is there already
+pub at_once : (now : ℕ) (s : State) → now ≤ s.clock → at now s ≡ s
+at_once now s le = let same : max s.clock now ≡ s.clock = omega (arith, le) in ap (λ (c : ℕ). record s { clock = c }) same
+
+exchange_main : (setup : Setup) (lifetime now fresh : ℕ) (state : State) → 0 < setup.most_sends → 80 ≤ lifetime → state.phase ≡ Allocated → IsTurn (at now state).clock state.task
+    → exchange setup lifetime now fresh state ≡ extended (new_request (at now state) fresh Refresh) lifetime (record (at now state) { task = sent_task setup (at now state).clock (new_request (at now state) fresh Refresh) state.task })
+exchange_main setup lifetime now fresh state some useful phase turn =
+    let st = at now state in
+    let r = new_request st fresh Refresh in
+    let active : is_active st.phase ≡ true = ap is_active phase in
+    let sent = record st { task = sent_task setup st.clock r st.task } in
+    let asked : polled setup fresh st ≡ record { state = sent; output = asks r }
+    = main_asked setup fresh st some active turn ∙ ap (λ (k : Kind). record { state = record st { task = sent_task setup st.clock (new_request st fresh k) st.task }; output = asks (new_request st fresh k) }) (ap kind_in phase) in
+    ap (replied_to setup lifetime now) asked
+    ∙ (main_answered setup fresh now 0 (Extended lifetime) st r active refl
+    ∙ (cond-true (is_long lifetime) (extended r lifetime (at now sent)) (deletes Useless (at now sent)) (le-leb 80 lifetime useful)
+    ∙ ap (extended r lifetime) (at_once now sent (omega arith))))
+
+success_to_peer : (lifetime : ℕ) (p : Peer) → success_to lifetime (kind_of p) ≡ Done
+success_to_peer lifetime p = cond_both p.wants (Bind p.number p.address) (Permit p.address) (λ (k : Kind). success_to lifetime k ≡ Done) (λ _. refl) (λ _. refl)
+
+exchange_peer : (setup : Setup) (lifetime now fresh : ℕ) (state : State) (p : Peer) → 0 < setup.most_sends → state.phase ≡ Allocated → state.task.pending ≡ None → is_due (at now state).clock state.task ≡ false → find (is_due_of (at now state).clock) state.peers ≡ Some p → is_free state.peers ≡ true
+    → is_expired (at now state).clock p.task ≡ false → p.task.pending ≡ None → list_any (awaits_of fresh) state.peers ≡ false
+    → exchange setup lifetime now fresh state ≡ record (at now state) { peers = Final setup (at now state) fresh state.peers }
+exchange_peer setup lifetime now fresh state p some phase idle_task idle found spare fit free unknown =
+    let st = at now state in
+    let r = new_request st fresh (kind_of p) in
+    let active : is_active st.phase ≡ true = ap is_active phase in
+    let there : is_allocated st.phase ≡ true = ap is_allocated phase in
+    let sent = record st { peers = changed_first (is_due_of st.clock) (turned_of setup st.clock fresh st.challenge) st.peers } in
+    let one = one_renews setup st fresh true p st.peers some fit free found unknown in
+    let asked : polled setup fresh st ≡ record { state = sent; output = asks r }
+    = cond-false (is_active st.phase && is_due st.clock st.task) (turns setup fresh st) _ (and_right (is_active st.phase) (is_due st.clock st.task) idle)
+    ∙ (cond-true (is_allocated st.phase) _ (keeps st) there
+    ∙ (ap (λ (free : Bool). peers_polled setup fresh free st) spare
+    ∙ (ap (λ (o : Option Peer). option_map_or (turns_peer setup fresh true st) o (keeps st)) found
+    ∙ ap (λ (o : Output). record { state = sent; output = o }) (cond-false (is_expired st.clock p.task) nothing (turn_output setup st.clock fresh (kind_of p) st.challenge p.task) fit ∙ output_asked setup fresh (kind_of p) st p.task some free)))) in
+    let after = at now sent in
+    ap (replied_to setup lifetime now) asked
+    ∙ (ap (λ (a : Answer). (step setup sent now 0 (responds setup.server fresh true a)).state) (success_to_peer lifetime p)
+    ∙ (cond-true (is_endpoint setup.server setup.server && is_active st.phase) (answered_any setup fresh true Done after) after (and_from (is_endpoint setup.server setup.server) (is_active st.phase) (endpoint_is_itself setup.server) active)
+    ∙ (cond-false (awaits fresh st.task) _ _ (ap (λ (o : Option Pending). option_map_or (λ (q : Pending). q.request.id == fresh) o false) idle_task)
+    ∙ (cond-true (is_allocated st.phase && list_any (awaits_of fresh) after.peers) (answered_peer setup fresh true Done after) after (and_from (is_allocated st.phase) (list_any (awaits_of fresh) after.peers) there one.awaited)
+    ∙ ap (λ (s : State). answered_peer setup fresh true Done s) (at_once now sent (omega arith))))))
+
+exchange_none : (setup : Setup) (lifetime now fresh : ℕ) (state : State) → state.phase ≡ Allocated → is_due (at now state).clock state.task ≡ false → find (is_due_of (at now state).clock) state.peers ≡ None → is_free state.peers ≡ true → exchange setup lifetime now fresh state ≡ at now state
+exchange_none setup lifetime now fresh state phase idle found spare =
+    let st = at now state in
+    let there : is_allocated st.phase ≡ true = ap is_allocated phase in
+    ap (replied_to setup lifetime now)
+    (cond-false (is_active st.phase && is_due st.clock st.task) (turns setup fresh st) _ (and_right (is_active st.phase) (is_due st.clock st.task) idle)
+    ∙ (cond-true (is_allocated st.phase) _ (keeps st) there ∙ (ap (λ (free : Bool). peers_polled setup fresh free st) spare ∙ ap (λ (o : Option Peer). option_map_or (turns_peer setup fresh true st) o (keeps st)) found)))
+
+-- ---- It goes on
+
+pub record Going (late : ℕ) (state : State) : Type 0 where
+  pub phase : state.phase ≡ Allocated
+  pub free : state.task.pending ≡ None
+  pub time : state.task.due + seconds 20 ≤ state.task.deadline
+  pub soon : state.clock ≤ state.task.due + late
+  pub each : AllByRecursion (IsKept state.clock late) state.peers
+
+abbrev bit : Bool → ℕ
+bit b = if b then 1 else 0
+
+dues_there : (s : State) → s.phase ≡ Allocated → dues s ≡ bit (is_due s.clock s.task) + counted (is_due_of s.clock) s.peers
+dues_there s phase = ap (λ (ph : Phase). (if is_active ph && is_due s.clock s.task then 1 else 0) + (if is_allocated ph then counted (is_due_of s.clock) s.peers else 0)) phase
+
+-- after an exchange: at the same moment, fewer things are due, or none was
+record Went (late : ℕ) (before after : State) : Type 0 where
+  going : Going late after
+  clock : after.clock ≡ before.clock
+  size : length after.peers ≡ length before.peers
+  fewer : (dues after < dues before) ⊎ ((dues before ≡ 0) × (dues after ≡ 0))
+  on : (named : Endpoint) → AllByRecursion (IsOn named) before.peers → AllByRecursion (IsOn named) after.peers
+
+none_await : (fresh clock late : ℕ) (ps : List Peer) → AllByRecursion (IsKept clock late) ps → list_any (awaits_of fresh) ps ≡ false
+none_await fresh clock late [] each = refl
+none_await fresh clock late (p ∷ ps) each = ap (λ (b : Bool). b || list_any (awaits_of fresh) ps) (idle_awaits fresh p each.0.calm.free) ∙ none_await fresh clock late ps each.1
+
+kept_found : (clock late : ℕ) (p : Peer) (ps : List Peer) → find (is_due_of clock) ps ≡ Some p → AllByRecursion (IsKept clock late) ps → IsKept clock late p × (is_due_of clock p ≡ true)
+kept_found clock late p ps is each = found (IsKept clock late) (is_due_of clock) (λ (o : Option Peer). o ≡ Some p → IsKept clock late p × (is_due_of clock p ≡ true)) (λ e. absurd cc) ps (λ x due k e. let same : x ≡ p = cc in subst (λ (y : Peer). IsKept clock late y × (is_due_of clock y ≡ true)) same (k, due)) each is
+
+went_main : (setup : Setup) (lifetime now fresh late : ℕ) (state : State) → 0 < setup.most_sends → 80 ≤ lifetime → late < seconds 20 → Going late (at now state) → is_due (at now state).clock state.task ≡ true → Went late (at now state) (exchange setup lifetime now fresh state)
+went_main setup lifetime now fresh late state some useful less g due =
+    let st = at now state in
+    let time = g.time in
+    let soon = g.soon in
+    let fit : is_expired st.clock st.task ≡ false = lt-leb st.task.deadline st.clock (omega (arith, time, soon, less)) in
+    let r = new_request st fresh Refresh in
+    let after = extended r lifetime (record st { task = sent_task setup st.clock r st.task }) in
+    let idle : is_due after.clock after.task ≡ false = lt-leb after.task.due st.clock (omega (arith, useful)) in
+    let one = dues_there st g.phase in
+    let two = dues_there after g.phase in
+    let was : bit (is_due st.clock st.task) ≡ 1 = cond-true {A = ℕ} (is_due st.clock st.task) 1 0 due in
+    let now_none : bit (is_due after.clock after.task) ≡ 0 = cond-false {A = ℕ} (is_due after.clock after.task) 1 0 idle in
+    subst (Went late st) (sym (exchange_main setup lifetime now fresh state some (omega (arith, useful)) g.phase (record { due = due; fit = fit; free = g.free })))
+    (record {
+      going = record { phase = g.phase; free = refl; time = omega (arith, useful); soon = omega (arith, useful); each = g.each };
+      clock = refl;
+      size = refl;
+      fewer = inl (omega (arith, one, two, was, now_none));
+      on = λ named each. each;
+    })
+
+none_under_way : (clock late : ℕ) (ps : List Peer) → AllByRecursion (IsKept clock late) ps → counted is_under_way ps ≡ 0
+none_under_way clock late [] each = refl
+none_under_way clock late (p ∷ ps) each =
+    cond-false (is_under_way p) (1 + counted is_under_way ps) (counted is_under_way ps) (ap (λ (o : Option Pending). is_some o) each.0.calm.free) ∙ none_under_way clock late ps each.1
+
+all_free : (clock late : ℕ) (ps : List Peer) → AllByRecursion (IsKept clock late) ps → is_free ps ≡ true
+all_free clock late ps each = let none = none_under_way clock late ps each in lt-ltb (counted is_under_way ps) 9 (omega (arith, none))
+
+went_peer : (setup : Setup) (lifetime now fresh late : ℕ) (state : State) (o : Option Peer) → 0 < setup.most_sends → late < seconds 20 → Going late (at now state) → is_due (at now state).clock state.task ≡ false → find (is_due_of (at now state).clock) state.peers ≡ o
+    → Went late (at now state) (exchange setup lifetime now fresh state)
+went_peer setup lifetime now fresh late state None some less g idle found_it =
+    let st = at now state in
+    let one = dues_there st g.phase in
+    let none : bit (is_due st.clock st.task) ≡ 0 = cond-false {A = ℕ} (is_due st.clock st.task) 1 0 idle in
+    let count = count_none (is_due_of st.clock) st.peers found_it in
+    subst (Went late st) (sym (exchange_none setup lifetime now fresh state g.phase idle found_it (all_free st.clock late st.peers g.each)))
+    (record { going = g; clock = refl; size = refl; fewer = inr (omega (arith, one, none, count), omega (arith, one, none, count)); on = λ named each. each })
+went_peer setup lifetime now fresh late state (Some p) some less g idle found_it =
+    let st = at now state in
+    let kept = kept_found st.clock late p st.peers found_it g.each in
+    let k = kept.0 in
+    let on = due_on st.clock p kept.1 in
+    let time = k.calm.time on in
+    let soon = k.soon on in
+    let fit : is_expired st.clock p.task ≡ false = lt-leb p.task.deadline st.clock (omega (arith, time, soon, less)) in
+    let after = record st { peers = Final setup st fresh st.peers } in
+    let one = dues_there st g.phase in
+    let two = dues_there after g.phase in
+    let count = final_count setup st fresh late st.peers p some less g.each found_it in
+    subst (Went late st) (sym (exchange_peer setup lifetime now fresh state p some g.phase g.free idle found_it (all_free st.clock late st.peers g.each) fit k.calm.free (none_await fresh st.clock late st.peers g.each)))
+    (record {
+      going = record { phase = g.phase; free = g.free; time = g.time; soon = g.soon; each = final_each setup st fresh late st.peers some less g.each };
+      clock = refl;
+      size = length_final setup st fresh st.peers;
+      fewer = inl (omega (arith, one, two, count));
+      on = λ named. final_on named setup st fresh late st.peers some less g.each;
+    })
+
+went : (setup : Setup) (lifetime now fresh late : ℕ) (state : State) → 0 < setup.most_sends → 80 ≤ lifetime → late < seconds 20 → Going late (at now state) → Went late (at now state) (exchange setup lifetime now fresh state)
+went setup lifetime now fresh late state some useful less g = ⊎_elim
+    (λ due. went_main setup lifetime now fresh late state some useful less g due)
+    (λ idle. went_peer setup lifetime now fresh late state (find (is_due_of (at now state).clock) state.peers) some less g idle refl)
+    (cases_Bool (is_due (at now state).clock state.task))
+
+-- ---- As many as there are things to be due
+
+record Passed (late n : ℕ) (before after : State) : Type 0 where
+  going : Going late after
+  clock : after.clock ≡ before.clock
+  size : length after.peers ≡ length before.peers
+  left : (dues after + n ≤ dues before) ⊎ (dues after ≡ 0)
+  on : (named : Endpoint) → AllByRecursion (IsOn named) before.peers → AllByRecursion (IsOn named) after.peers
+
+passed : (setup : Setup) (lifetime now fresh late n : ℕ) (state : State) → 0 < setup.most_sends → 80 ≤ lifetime → late < seconds 20 → Going late (at now state) → Passed late n (at now state) (at now (exchanges setup lifetime now fresh n state))
+passed setup lifetime now fresh late zero state some useful less g = record { going = g; clock = refl; size = refl; left = inl (omega arith); on = λ named each. each }
+passed setup lifetime now fresh late (suc n) state some useful less g =
+    let before = passed setup lifetime now fresh late n state some useful less g in
+    let s = exchanges setup lifetime now fresh n state in
+    let w = went setup lifetime now (fresh + n) late s some useful less before.going in
+    let clock = w.clock in
+    subst (Passed late (suc n) (at now state)) (sym (at_once now (exchange setup lifetime now (fresh + n) s) (omega (arith, clock))))
+    (record {
+      going = w.going;
+      clock = w.clock ∙ before.clock;
+      size = w.size ∙ before.size;
+      left = elim w.fewer [
+        | inl fewer ↦ elim before.left [
+          | inl le ↦ inl (omega (arith, fewer, le))
+          | inr none ↦ absurd (omega (arith, fewer, none))
+        ]
+        | inr none ↦ inr none.1
+      ];
+      on = λ named each. w.on named (before.on named each);
+    })
+
+-- an exchange leaves the clock at its moment
+exchanged_clock : (setup : Setup) (lifetime now fresh late n : ℕ) (state : State) → 0 < setup.most_sends → 80 ≤ lifetime → late < seconds 20 → Going late (at now state) → at now (exchanges setup lifetime now fresh (suc n) state) ≡ exchanges setup lifetime now fresh (suc n) state
+exchanged_clock setup lifetime now fresh late n state some useful less g =
+    let s = exchanges setup lifetime now fresh n state in
+    let w = went setup lifetime now (fresh + n) late s some useful less (passed setup lifetime now fresh late n state some useful less g).going in
+    let clock = w.clock in
+    at_once now (exchange setup lifetime now (fresh + n) s) (omega (arith, clock))
+
+counted_few : (clock : ℕ) (ps : List Peer) → counted (is_due_of clock) ps ≤ length ps
+counted_few clock [] = omega arith
+counted_few clock (p ∷ ps) = let more = counted_few clock ps in cond_both (is_due_of clock p) (1 + counted (is_due_of clock) ps) (counted (is_due_of clock) ps) (λ (n : ℕ). n ≤ suc (length ps)) (λ _. omega (arith, more)) (λ _. omega (arith, more))
+
+few_dues : (s : State) → s.phase ≡ Allocated → dues s ≤ suc (length s.peers)
+few_dues s phase =
+    let one = dues_there s phase in
+    let more = counted_few s.clock s.peers in
+    let main : bit (is_due s.clock s.task) ≤ 1 = cond_both {A = ℕ} (is_due s.clock s.task) 1 0 (λ (n : ℕ). n ≤ 1) (λ _. omega arith) (λ _. omega arith) in
+    omega (arith, one, more, main)
+
+-- nothing is due any more
+record Rested (state : State) : Type 0 where
+  going : Going 0 state
+  none : dues state ≡ 0
+  granted_each : AllByRecursion (λ p. p.over ≡ false → 0 < p.expires_at) state.peers
+
+idle_later : (clock late : ℕ) (ps : List Peer) → AllByRecursion (IsKept clock late) ps → AllByRecursion (λ p. is_due_of clock p ≡ false) ps → AllByRecursion (IsKept clock 0) ps × AllByRecursion (λ p. p.over ≡ false → 0 < p.expires_at) ps
+idle_later clock late [] each idle = (tt, tt)
+idle_later clock late (p ∷ ps) each idle =
+    let more = idle_later clock late ps each.1 idle.1 in
+    let later : (on : p.over ≡ false) → clock < p.task.due = λ on. leb-false p.task.due clock (sym (ap (λ (b : Bool). not b && is_due clock p.task) on) ∙ idle.0) in (
+      (record { calm = each.0.calm; soon = λ on. let after = later on in omega (arith, after) }, more.0),
+      (
+        λ on. elim (each.0.calm.asked on) [
+          | inl some ↦ some
+          | inr due ↦ let after = later on in absurd (omega (arith, due, after))
+        ],
+        more.1,
+      ),
+    )
+
+rested : (late : ℕ) (state : State) → Going late state → dues state ≡ 0 → Rested state
+rested late state g none =
+    let one = dues_there state g.phase in
+    let count : counted (is_due_of state.clock) state.peers ≡ 0 = omega (arith, one, none) in
+    let both = idle_later state.clock late state.peers g.each (none_counted (is_due_of state.clock) state.peers count) in
+    let idle : is_due state.clock state.task ≡ false = ⊎_elim
+    (λ due. let was : bit (is_due state.clock state.task) ≡ 1 = cond-true {A = ℕ} (is_due state.clock state.task) 1 0 due in absurd (omega (arith, one, none, was)))
+    (λ no. no) (cases_Bool (is_due state.clock state.task)) in
+    let after = leb-false state.task.due state.clock idle in
+    record {
+      going = record { phase = g.phase; free = g.free; time = g.time; soon = omega (arith, after); each = both.0 };
+      none = none;
+      granted_each = both.1;
+    }
+
+-- ---- From moment to moment
+
+each_at : (clock after late : ℕ) (ps : List Peer) → clock ≤ after → after ≤ clock + late → AllByRecursion (IsKept clock 0) ps → AllByRecursion (IsKept after late) ps
+each_at clock after late [] le soon each = tt
+each_at clock after late (p ∷ ps) le soon each = (
+  record {
+    calm = record {
+      asked = λ on. elim (each.0.calm.asked on) [
+        | inl some ↦ inl some
+        | inr due ↦ inr (omega (arith, due, le))
+      ];
+      free = each.0.calm.free;
+      time = each.0.calm.time;
+      ends = each.0.calm.ends;
+    };
+    soon = λ on. let before = each.0.soon on in omega (arith, before, soon);
+  },
+  each_at clock after late ps le soon each.1,
+)
+
+going_at : (late now : ℕ) (state : State) → Going 0 state → now ≤ state.clock + late → Going late (at now state)
+going_at late now state g soon = let before = g.soon in record {
+  phase = g.phase;
+  free = g.free;
+  time = g.time;
+  soon = omega (arith, before, soon);
+  each = each_at state.clock (max state.clock now) late state.peers (omega arith) (omega (arith, soon)) g.each;
+}
+
+-- after a round
+record Round (before after : State) : Type 0 where
+  rests : Rested after
+  on : (named : Endpoint) → AllByRecursion (IsOn named) before.peers → AllByRecursion (IsOn named) after.peers
+
+round_rests : (setup : Setup) (lifetime now fresh late : ℕ) (state : State) → 0 < setup.most_sends → 80 ≤ lifetime → late < seconds 20 → Going 0 state → now ≤ state.clock + late → Round state (exchanges setup lifetime now fresh (suc (length state.peers)) state)
+round_rests setup lifetime now fresh late state some useful less g soon =
+    let st = at now state in
+    let here = going_at late now state g soon in
+    let p = passed setup lifetime now fresh late (suc (length state.peers)) state some useful less here in
+    let few = few_dues st here.phase in
+    let after = at now (exchanges setup lifetime now fresh (suc (length state.peers)) state) in
+    subst (Round state) (exchanged_clock setup lifetime now fresh late (length state.peers) state some useful less here)
+    (record {
+      rests = rested late after p.going (elim p.left [
+        | inl le ↦ omega (arith, le, few)
+        | inr none ↦ none
+      ]);
+      on = p.on;
+    })
+
+pub rounds_go : (setup : Setup) (lifetime fresh late : ℕ) (moments : List ℕ) (state : State) → 0 < setup.most_sends → 80 ≤ lifetime → late < seconds 20 → Going 0 state → AreClose setup lifetime fresh late moments state → Going 0 (rounds setup lifetime fresh moments state)
+rounds_go setup lifetime fresh late [] state some useful less g close = g
+rounds_go setup lifetime fresh late (now ∷ earlier) state some useful less g close =
+    (round_rests setup lifetime now fresh late (rounds setup lifetime fresh earlier state) some useful less (rounds_go setup lifetime fresh late earlier state some useful less g close.1) close.0).rests.going
+
+rounds_on : (setup : Setup) (lifetime fresh late : ℕ) (moments : List ℕ) (state : State) (named : Endpoint) → 0 < setup.most_sends → 80 ≤ lifetime → late < seconds 20 → Going 0 state → AreClose setup lifetime fresh late moments state → AllByRecursion (IsOn named) state.peers → AllByRecursion (IsOn named) (rounds setup lifetime fresh moments state).peers
+rounds_on setup lifetime fresh late [] state named some useful less g close on = on
+rounds_on setup lifetime fresh late (now ∷ earlier) state named some useful less g close on =
+    (round_rests setup lifetime now fresh late (rounds setup lifetime fresh earlier state) some useful less (rounds_go setup lifetime fresh late earlier state some useful less g close.1) close.0).on named (rounds_on setup lifetime fresh late earlier state named some useful less g close.1 on)
+
+-- ---- The peers stay
+
+same_peer : (peer : Endpoint) (p q : Peer) → IsSame p q → is_peer peer q ≡ is_peer peer p
+same_peer peer p q same = ap (is_endpoint peer) same.1
+
+known_mapped : (peer : Endpoint) (change : Peer → Peer) → ((p : Peer) → IsSame p (change p)) → (ps : List Peer) → list_any (is_peer peer) ps ≡ true → list_any (is_peer peer) (map {B = Peer} change ps) ≡ true
+known_mapped peer change same [] known = known
+known_mapped peer change same (p ∷ ps) known = elim (or_cases (is_peer peer p) (list_any (is_peer peer) ps) known) [
+  | inl is ↦ or_left (is_peer peer (change p)) (list_any (is_peer peer) (map {B = Peer} change ps)) (same_peer peer p (change p) (same p) ∙ is)
+  | inr more ↦ or_right (is_peer peer (change p)) (list_any (is_peer peer) (map {B = Peer} change ps)) (known_mapped peer change same ps more)
+]
+
+pub known_changed : (peer : Endpoint) (test : Peer → Bool) (change : Peer → Peer) → ((p : Peer) → (change p).address ≡ p.address) → (ps : List Peer) → list_any (is_peer peer) ps ≡ true → list_any (is_peer peer) (changed_first test change ps) ≡ true
+known_changed peer test change same [] known = known
+known_changed peer test change same (p ∷ ps) known =
+    cond_both (test p) (change p ∷ ps) (p ∷ changed_first test change ps) (λ (qs : List Peer). list_any (is_peer peer) qs ≡ true)
+    (λ _. ap (λ (e : Endpoint). is_endpoint peer e || list_any (is_peer peer) ps) (same p) ∙ known)
+    (λ _. elim (or_cases (is_peer peer p) (list_any (is_peer peer) ps) known) [
+      | inl is ↦ or_left (is_peer peer p) (list_any (is_peer peer) (changed_first test change ps)) is
+      | inr more ↦ or_right (is_peer peer p) (list_any (is_peer peer) (changed_first test change ps)) (known_changed peer test change same ps more)
+    ])
+
+pub known_keep : (setup : Setup) (peer : Endpoint) → PeersKeep setup (λ ps. list_any (is_peer peer) ps ≡ true)
+known_keep setup peer = record {
+  mapped = λ change same calm ps. known_mapped peer change same ps;
+  changed = λ test change same calm ps. known_changed peer test change (λ p. (same p).1) ps;
+  turned = λ clock fresh challenge ps. known_changed peer (is_next (is_free ps) clock) (turned_of setup clock fresh challenge) (λ p. (turned_same setup clock fresh challenge p).1) ps;
+}
+
+replied_known : (setup : Setup) (lifetime now : ℕ) (peer : Endpoint) (state : State) (o : Output) → list_any (is_peer peer) state.peers ≡ true → list_any (is_peer peer) (replied setup lifetime now state o).peers ≡ true
+replied_known setup lifetime now peer state (asks r) known =
+    happens_peers (λ ps. list_any (is_peer peer) ps ≡ true) setup (known_keep setup peer) 0 (at now state) (responds setup.server r.id true (success_to lifetime r.kind)) (no_names setup (at now state) (responds setup.server r.id true (success_to lifetime r.kind)) (λ ps. list_any (is_peer peer) ps ≡ true) (λ a e. absurd cc) (λ a e. absurd cc) (λ a e. absurd cc)) known
+replied_known setup lifetime now peer state (send_to other bytes) known = known
+replied_known setup lifetime now peer state (send_on number bytes) known = known
+replied_known setup lifetime now peer state (shows other bytes) known = known
+replied_known setup lifetime now peer state nothing known = known
+
+exchanges_known : (setup : Setup) (lifetime now fresh n : ℕ) (peer : Endpoint) (state : State) → list_any (is_peer peer) state.peers ≡ true → list_any (is_peer peer) (exchanges setup lifetime now fresh n state).peers ≡ true
+exchanges_known setup lifetime now fresh zero peer state known = known
+exchanges_known setup lifetime now fresh (suc n) peer state known =
+    let s = exchanges setup lifetime now fresh n state in
+    let polled_s = step setup s now (fresh + n) polls in
+    replied_known setup lifetime now peer polled_s.state polled_s.output
+    (happens_peers (λ ps. list_any (is_peer peer) ps ≡ true) setup (known_keep setup peer) (fresh + n) (at now s) polls (no_names setup (at now s) polls (λ ps. list_any (is_peer peer) ps ≡ true) (λ a e. absurd cc) (λ a e. absurd cc) (λ a e. absurd cc)) (exchanges_known setup lifetime now fresh n peer state known))
+
+rounds_known : (setup : Setup) (lifetime fresh : ℕ) (moments : List ℕ) (peer : Endpoint) (state : State) → list_any (is_peer peer) state.peers ≡ true → list_any (is_peer peer) (rounds setup lifetime fresh moments state).peers ≡ true
+rounds_known setup lifetime fresh [] peer state known = known
+rounds_known setup lifetime fresh (now ∷ earlier) peer state known =
+    let before = rounds setup lifetime fresh earlier state in
+    exchanges_known setup lifetime now fresh (suc (length before.peers)) peer before (rounds_known setup lifetime fresh earlier peer state known)
+
+-- ---- It stays punctual
+
+pub calm_kept : (clock : ℕ) (ps : List Peer) → AllByRecursion (IsCalmPeer clock) ps → AllByRecursion (λ (p : Peer). p.over ≡ false → clock ≤ p.task.due + 0) ps → AllByRecursion (IsKept clock 0) ps
+calm_kept clock [] calm soon = tt
+calm_kept clock (p ∷ ps) calm soon = (record { calm = calm.0; soon = soon.0 }, calm_kept clock ps calm.1 soon.1)
+
+pub going_from : (state : State) → IsCalm state → IsInTime 0 state → Going 0 state
+going_from state calm in_time = record { phase = calm.allocation; free = calm.free; time = calm.time; soon = in_time.allocation; each = calm_kept state.clock state.peers calm.peers in_time.peers }
+
+usable_each : (named : Endpoint) (ps : List Peer) → AllByRecursion (IsOn named) ps → AllByRecursion (λ (p : Peer). p.over ≡ false → 0 < p.expires_at) ps → AllByRecursion (IsUsable named) ps
+usable_each named [] on some = tt
+usable_each named (p ∷ ps) on some = (λ here. (on.0 here, some.0 (on.0 here)), usable_each named ps on.1 some.1)
+
+pub soon_each : (clock late : ℕ) (ps : List Peer) → AllByRecursion (IsKept clock late) ps → AllByRecursion (λ (p : Peer). p.over ≡ false → clock ≤ p.task.due + late) ps
+soon_each clock late = each_map (IsKept clock late) (λ (p : Peer). p.over ≡ false → clock ≤ p.task.due + late) (λ p k. k.soon)
+
+pub stays_punctual : (setup : Setup) (state : State) (lifetime fresh late slack now later : ℕ) (earlier : List ℕ) (named peer : Endpoint) → 0 < setup.most_sends → 80 ≤ lifetime → late + slack < seconds 20 → IsCalm state → IsInTime 0 state → is_ip peer.ip named.ip ≡ true → list_any (is_peer named) state.peers ≡ true
+    → AllByRecursion (IsOn named) state.peers → AreClose setup lifetime fresh late (now ∷ earlier) state → later ≤ (rounds setup lifetime fresh (now ∷ earlier) state).clock + late → IsPunctual late slack named peer (at later (rounds setup lifetime fresh (now ∷ earlier) state))
+stays_punctual setup state lifetime fresh late slack now later earlier named peer some useful less calm in_time same_ip known on close soon =
+    let before = rounds setup lifetime fresh earlier state in
+    let g = rounds_go setup lifetime fresh late earlier state some useful (omega (arith, less)) (going_from state calm in_time) close.1 in
+    let r = (round_rests setup lifetime now fresh late before some useful (omega (arith, less)) g close.0).rests in
+    let on_then = rounds_on setup lifetime fresh late (now ∷ earlier) state named some useful (omega (arith, less)) (going_from state calm in_time) close on in
+    let s = rounds setup lifetime fresh (now ∷ earlier) state in
+    let here = going_at late later s r.going soon in
+    record {
+      allocation = ap is_allocated here.phase;
+      known = rounds_known setup lifetime fresh (now ∷ earlier) named state known;
+      same = same_ip;
+      usable = usable_each named s.peers on_then r.granted_each;
+      in_time = record { allocation = here.soon; peers = soon_each (at later s).clock late s.peers here.each };
+      soon = less;
+    }
+
+-- ---- The beginning
+
+restarted_calm : (clock : ℕ) (ps : List Peer) → AllByRecursion (IsCalmPeer clock) (map {B = Peer} (reopened clock) ps)
+restarted_calm clock [] = tt
+restarted_calm clock (p ∷ ps) = (
+  record {
+    asked = λ _. inr (omega arith);
+    free = refl;
+    time = λ _. omega arith;
+    ends = λ _ some. absurd (omega (arith, some));
+  },
+  restarted_calm clock ps,
+)
+
+restarted_in_time : (clock : ℕ) (ps : List Peer) → AllByRecursion (λ (p : Peer). p.over ≡ false → clock ≤ p.task.due + 0) (map {B = Peer} (reopened clock) ps)
+restarted_in_time clock [] = tt
+restarted_in_time clock (p ∷ ps) = (λ _. omega arith, restarted_in_time clock ps)
+
+restarted_known : (peer : Endpoint) (clock : ℕ) (ps : List Peer) → list_any (is_peer peer) (map {B = Peer} (reopened clock) ps) ≡ list_any (is_peer peer) ps
+restarted_known peer clock [] = refl
+restarted_known peer clock (p ∷ ps) = ap (λ (b : Bool). is_peer peer p || b) (restarted_known peer clock ps)
+
+restarted_on : (peer : Endpoint) (clock : ℕ) (ps : List Peer) → AllByRecursion (λ p. is_peer peer p ≡ true → is_dropped p ≡ false) ps → AllByRecursion (IsOn peer) (map {B = Peer} (reopened clock) ps)
+restarted_on peer clock [] listed = tt
+restarted_on peer clock (p ∷ ps) listed = (λ here. and_right p.over (is_dropped p) (listed.0 here), restarted_on peer clock ps listed.1)
+
+-- an allocation that was just opened
+pub opened_calm : (state : State) (r : Request) (relayed mapped : Endpoint) (lifetime : ℕ) → state.clock + seconds 60 ≤ r.since + seconds lifetime → 80 ≤ lifetime → IsCalm (opened r relayed mapped lifetime state) × IsInTime 0 (opened r relayed mapped lifetime state)
+    × ((peer : Endpoint) → list_any (is_peer peer) (opened r relayed mapped lifetime state).peers ≡ list_any (is_peer peer) state.peers)
+    × ((peer : Endpoint) → AllByRecursion (λ p. is_peer peer p ≡ true → is_dropped p ≡ false) state.peers → AllByRecursion (IsOn peer) (opened r relayed mapped lifetime state).peers)
+opened_calm state r relayed mapped lifetime soon useful = (
+  record { allocation = refl; free = refl; time = omega (arith, useful); peers = restarted_calm state.clock state.peers },
+  record { allocation = omega (arith, soon); peers = restarted_in_time state.clock state.peers },
+  λ peer. restarted_known peer state.clock state.peers,
+  λ peer listed. restarted_on peer state.clock state.peers listed,
+)
+
+-- ---- The same as events
+
+run_reply : (setup : Setup) (lifetime now : ℕ) (o : Output) (events : List Timed) → run setup (reply_events setup lifetime now o ++ events) ≡ replied setup lifetime now (run setup events) o
+run_reply setup lifetime now (asks r) events = refl
+run_reply setup lifetime now (send_to peer bytes) events = refl
+run_reply setup lifetime now (send_on number bytes) events = refl
+run_reply setup lifetime now (shows peer bytes) events = refl
+run_reply setup lifetime now nothing events = refl
+
+run_exchanges : (setup : Setup) (lifetime now fresh n : ℕ) (events : List Timed) → run setup (exchanges_events setup lifetime now fresh n events) ≡ exchanges setup lifetime now fresh n (run setup events)
+run_exchanges setup lifetime now fresh zero events = refl
+run_exchanges setup lifetime now fresh (suc n) events =
+    let before = exchanges_events setup lifetime now fresh n events in
+    run_reply setup lifetime now (step setup (run setup before) now (fresh + n) polls).output (record { now = now; fresh = fresh + n; event = polls } ∷ before)
+    ∙ ap (exchange setup lifetime now (fresh + n)) (run_exchanges setup lifetime now fresh n events)
+
+pub run_rounds : (setup : Setup) (lifetime fresh : ℕ) (moments : List ℕ) (events : List Timed) → run setup (rounds_events setup lifetime fresh moments events) ≡ rounds setup lifetime fresh moments (run setup events)
+run_rounds setup lifetime fresh [] events = refl
+run_rounds setup lifetime fresh (now ∷ earlier) events =
+    let before = rounds_events setup lifetime fresh earlier events in
+    run_exchanges setup lifetime now fresh (suc (length (run setup before).peers)) before
+    ∙ ap (λ (s : State). exchanges setup lifetime now fresh (suc (length s.peers)) s) (run_rounds setup lifetime fresh earlier events)
+
+-- so each run goes on punctually
+pub run_punctual : (setup : Setup) (events : List Timed) (lifetime fresh late slack now later : ℕ) (earlier : List ℕ) (named peer : Endpoint) → 0 < setup.most_sends → 80 ≤ lifetime → late + slack < seconds 20 → IsCalm (run setup events) → IsInTime 0 (run setup events)
+    → is_ip peer.ip named.ip ≡ true → list_any (is_peer named) (run setup events).peers ≡ true → AllByRecursion (IsOn named) (run setup events).peers → AreClose setup lifetime fresh late (now ∷ earlier) (run setup events) → later ≤ (run setup (rounds_events setup lifetime fresh (now ∷ earlier) events)).clock + late
+    → IsPunctual late slack named peer (at later (run setup (rounds_events setup lifetime fresh (now ∷ earlier) events)))
+run_punctual setup events lifetime fresh late slack now later earlier named peer some useful less calm in_time same_ip known on close soon =
+    let same = run_rounds setup lifetime fresh (now ∷ earlier) events in
+    subst (λ (s : State). IsPunctual late slack named peer (at later s)) (sym same)
+    (stays_punctual setup (run setup events) lifetime fresh late slack now later earlier named peer some useful less calm in_time same_ip known on close (subst (λ (s : State). later ≤ s.clock + late) same soon))

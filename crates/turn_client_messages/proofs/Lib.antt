@@ -1,0 +1,3 @@
+mod ChannelsLemmas
+mod HeardLemmas
+mod OriginsLemmas

@@ -1,0 +1,9 @@
+pub mod Views
+pub mod Understood
+pub mod Values
+pub mod Requests
+pub mod Pending
+pub mod Judging
+pub mod Reporting
+pub mod Heads
+pub mod Origins

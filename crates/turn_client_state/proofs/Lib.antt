@@ -1,0 +1,3 @@
+pub mod ListsLemmas
+pub mod NumbersLemmas
+pub mod WakingLemmas

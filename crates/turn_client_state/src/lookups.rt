@@ -1,0 +1,109 @@
+//! Which peer is sought.
+
+ghost use Rattle.std.specs.Prelude.{◌≡◌};
+ghost use Rattle.turn_client_machine.specs.Clients as machine;
+ghost use Rattle.turn_client_machine.specs.Responses as responses;
+ghost use Rattle.turn_client_machine.specs.Steps as steps;
+ghost use Rattle.turn_client_state.specs.Lookups.{test_of};
+
+use crate::tasks::{awaits, is_due, is_expired};
+use stun_endpoints::{Endpoint, Ip};
+use turn_client_machine::{Kind, Peer};
+
+/// Which peer is sought: the newest that passes.
+#[derive(Clone, Copy)]
+pub(crate) enum Sought {
+    /// The one with this transport address.
+    At(Endpoint),
+    /// The one with this transport address, if it isn't dropped.
+    Listed(Endpoint),
+    /// One that was dropped, and whose number has rested at a moment.
+    Rested(u64),
+    /// One whose permission is for this IP address, and isn't given up.
+    Covering(Ip),
+    /// One for which the server permits this IP address at a moment.
+    Permitted(u64, Ip),
+    /// The one with this transport address, if it has a channel at a moment.
+    WithChannel(u64, Endpoint),
+    /// One whose request under way has this transaction ID.
+    Awaiting(u128),
+    /// One for which a poll at a moment does something. Whether a further request may be sent comes
+    /// first.
+    Next(bool, u64),
+}
+
+/// Whether a ChannelBind request for the peer is under way.
+pub(crate) fn is_binding(peer: &Peer) -> bool
+    ensures { result ≡ machine.is_binding peer.now }
+{
+    match &peer.task.pending {
+        Some(pending) => is_bind(&pending.request.kind),
+        None => false,
+    }
+}
+
+fn is_bind(kind: &Kind) -> bool
+    ensures { result ≡ machine.is_bind kind.now }
+{
+    match kind {
+        Kind::Allocate | Kind::Refresh | Kind::Delete | Kind::Permit(_) => false,
+        Kind::Bind { .. } => true,
+    }
+}
+
+/// Whether a request for the peer is under way.
+pub(crate) fn is_under_way(peer: &Peer) -> bool
+    ensures { result ≡ steps.is_under_way peer.now }
+{
+    peer.task.pending.is_some()
+}
+
+/// Whether another peer may take the place of a dropped one.
+fn is_rested(clock: u64, peer: &Peer) -> bool
+    ensures { result ≡ machine.is_rested clock peer.now }
+{
+    match peer.rests_until {
+        Some(until) => peer.over && until <= clock as u128,
+        None => false,
+    }
+}
+
+fn is_permitted(clock: u64, ip: Ip, peer: &Peer) -> bool
+    ensures { result ≡ machine.is_permitted clock ip peer.now }
+{
+    ip == peer.address.ip && (clock as u128) < peer.expires_at
+}
+
+/// Whether the peer has a channel that lasts 20 seconds more.
+fn has_channel(clock: u64, address: Endpoint, peer: &Peer) -> bool
+    ensures { result ≡ machine.has_channel clock address peer.now }
+{
+    let clock = clock as u128;
+    address == peer.address
+        && clock < peer.expires_at
+        && clock + 20_000_000_000 < peer.channel_expires_at
+}
+
+fn is_next(free: bool, clock: u64, peer: &Peer) -> bool
+    ensures { result ≡ steps.is_next free clock peer.now }
+{
+    (free || is_under_way(peer) || is_expired(clock, &peer.task))
+        && !peer.over
+        && is_due(clock, &peer.task)
+}
+
+/// Whether a peer is the sought one.
+pub(crate) fn passes(sought: &Sought, peer: &Peer) -> bool
+    ensures { result ≡ test_of sought.now peer.now }
+{
+    match sought {
+        Sought::At(address) => *address == peer.address,
+        Sought::Listed(address) => *address == peer.address && !peer.rests_until.is_some(),
+        Sought::Rested(clock) => is_rested(*clock, peer),
+        Sought::Covering(ip) => !peer.over && *ip == peer.address.ip,
+        Sought::Permitted(clock, ip) => is_permitted(*clock, *ip, peer),
+        Sought::WithChannel(clock, address) => has_channel(*clock, *address, peer),
+        Sought::Awaiting(id) => awaits(*id, &peer.task),
+        Sought::Next(free, clock) => is_next(*free, *clock, peer),
+    }
+}

@@ -1,5 +1,0 @@
-use Rattle.turn_machine.proofs.RightLemmas.{run_right}
-use Rattle.turn_machine.proofs.relaying_is_warranted.Goals as goal
-
-pub returns : goal.returns
-returns c = run_right

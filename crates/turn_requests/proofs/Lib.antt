@@ -1,0 +1,3 @@
+mod AddedPeersLemmas
+mod MemoryLemmas
+mod WritingLemmas

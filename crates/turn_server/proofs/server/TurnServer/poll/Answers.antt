@@ -1,0 +1,10 @@
+use Rattle.std.proofs.Common.{None, subst}
+use Rattle.turn_machine.specs.Events.{ticks, nothing}
+use Rattle.turn_allocations.specs.Setups.{setup_of}
+use Rattle.turn_machine.specs.Reserving.{plain}
+use Rattle.turn_reservations.specs.Calls.{Reserving, IsOuterStep}
+use Rattle.turn_server.proofs.server.TurnServer.poll.Goals as goal
+
+pub returns : goal.returns
+returns g c = λ rules.
+    subst (λ (old : Reserving). IsOuterStep (setup_of old.limits g.row.P g.row.C) rules old c.args.now (plain (ticks)) nothing None c.poll.new.self) c.self.view_is (c.poll.ensures rules)
