@@ -7,14 +7,18 @@ use Rattle.ice_machine.specs.Steps.{changed_first, discovered, heard, hears}
 use Rattle.ice_machine.specs.Bounds.{AreDistinct}
 use Rattle.ice_agent_state.specs.Agents.{Held, setup_of}
 use Rattle.ice_agent_state.specs.Tried.{IsTried}
+use Rattle.ice_agent_state.specs.Quiet.{IsSteady}
+use Rattle.ice_agent_state.proofs.QuietLemmas.{new_steady, heard_steady}
 use Rattle.ice_agent_state.proofs.ListsLemmas.{take_written}
 use Rattle.ice_agent_state.proofs.AskedLemmas.{changed_length}
-use Rattle.ice_agent_state.proofs.TriedLemmas.{heard_each, heard_distinct}
+use Rattle.ice_agent_state.proofs.TriedLemmas.{pair_of_tried, heard_tried, heard_each, heard_distinct}
 use Rattle.ice_agent_state.proofs.agent.AgentState.accept.Goals as goal
 
 pub invariant_of-self : goal.invariant_of-self
 invariant_of-self c =
     let most = max 1 c.self.inside.settings.most_tries in
+    let setup = setup_of c.self.inside.settings in
+    let until = c.self.inside.quiet_until in
     let room = c.self.inside.settings.most_pairs in
     let items = c.self.inside.pairs.items in
     let vec = c.add_pair.new.pairs in
@@ -38,7 +42,9 @@ invariant_of-self c =
       few = c.self.invariant.few;
       tries = c.self.invariant.tries;
       distinct = subst AreDistinct written (heard_distinct room c.self.inside.role c.args.check.now c.args.base remote items c.self.invariant.distinct);
-      tried = subst (AllByRecursion (IsTried most)) written (heard_each most room c.self.inside.role c.args.check.now c.args.base remote items c.self.invariant.tried);
+      tried = subst (AllByRecursion (IsTried most)) written (heard_each (IsTried most) (pair_of_tried most) room c.self.inside.role c.args.check.now (heard_tried most c.self.inside.role c.args.check.now) c.args.base remote items c.self.invariant.tried);
+      steady = subst (AllByRecursion (IsSteady setup until)) written (heard_each (IsSteady setup until) (new_steady setup until) room c.self.inside.role c.args.check.now (heard_steady setup until c.self.inside.role c.args.check.now) c.args.base remote items c.self.invariant.steady);
+      awaited = c.self.invariant.awaited;
     }
 
 pub returns-clause-state : goal.returns-clause-state
