@@ -1,8 +1,19 @@
 -- Loops over pairs, from the end.
-use Rattle.std.proofs.Common.{◌≡◌, ℕ, ◌-◌, ◌<◌, ◌≤◌, Bool, true, false, cond, List, length, drop, filter, map, get_or, Option, None, Some, refl, sym, ap, ◌∙◌, subst}
-use Rattle.std.specs.Prelude.{nat_lt, option_map}
+use Rattle.std.proofs.Common.{◌≡◌, ℕ, zero, suc, ◌+◌, ◌-◌, ◌<◌, ◌≤◌, Bool, true, false, cond, List, [], ◌∷◌, length, find, drop, filter, map, get_or, Option, None, Some, refl, sym, ap, ◌∙◌, subst, eqb-true, arith}
+use Rattle.std.specs.Prelude.{nat_lt, ◌==◌, option_map}
+use Rattle.std.specs.List.{AllByRecursion}
+use Rattle.std.proofs.lemmas.Bool.{cond-true, cond-false, lt-ltb, and_parts}
+use Rattle.std.proofs.lemmas.Bool.Decides.{nat_tests}
+use Rattle.std.proofs.lemmas.List.{drop_more}
+use Rattle.stun_endpoints.specs.Endpoints.{is_endpoint}
+use Rattle.stun_endpoints.proofs.AddressesLemmas.{endpoint_same}
+use Rattle.stun_endpoints.specs.declared.endpoints.Endpoint.{Endpoint}
 use Rattle.ice_machine.specs.declared.pairs.Pair.{Pair}
 use Rattle.ice_machine.specs.declared.pairs.PairState.TheVariants.{Frozen}
+use Rattle.ice_machine.specs.Agents.{is_at}
+use Rattle.ice_machine.specs.Bounds.{AreDistinct}
+use Rattle.ice_machine.proofs.RightLemmas.{IsGood, best_good}
+use Rattle.ice_machine.proofs.SilenceLemmas.{IsFirst, all_first}
 use Rattle.ice_machine.specs.Pairs.{better, best, with_pair, with_pairs}
 use Rattle.ice_agent_state.specs.Best.{better_scored, scored}
 use Rattle.ice_agent_state.proofs.ListsLemmas.{drop_splits, drop_passes}
@@ -51,6 +62,42 @@ best_step S ps at d p n o r some within here is so_far next =
     ∙ better_step S p (best S (drop at ps))
     ∙ ap (λ (z : Pair). option_map (scored S) (better S z (best S (drop at ps)))) here
     ∙ ap (λ (zs : List Pair). option_map (scored S) (best S zs)) (sym (drop_splits ps at d some within))
+
+skipped : (S : Pair → ℕ) (p : Pair) (o : Option Pair) → S p ≡ 0 → IsGood (λ _. Unit {0}) S o → better S p o ≡ o
+skipped S p None none good = grind (arith, nat_tests)
+skipped S p (Some q) none good = cond-true (nat_lt (S p) (S q)) (Some q) (Some p) (lt-ltb (S p) (S q) (let some = good.1 in omega (arith, none, some)))
+
+each_any : (ps : List Pair) → AllByRecursion (λ _. Unit {0}) ps
+each_any [] = tt
+each_any (p ∷ ps) = (tt, each_any ps)
+
+-- the same, if the pair at the next place has no score
+pub best_skip : (S : Pair → ℕ) (ps : List Pair) (at : ℕ) (d p : Pair) (n : ℕ) (o : Option (Pair × ℕ)) → 0 < at → at ≤ length ps → p ≡ get_or ps (at - 1) d → n ≡ S p → n ≡ 0
+    → o ≡ option_map (scored S) (best S (drop at ps)) → o ≡ option_map (scored S) (best S (drop (at - 1) ps))
+best_skip S ps at d p n o some within here is none so_far =
+    so_far
+    ∙ ap (option_map (scored S)) (sym (ap (best S) (drop_splits ps at d some within) ∙ skipped S (get_or ps (at - 1) d) (best S (drop at ps)) (sym (is ∙ ap S here) ∙ none) (best_good (λ _. Unit {0}) S (drop at ps) (each_any (drop at ps)))))
+
+-- ---- Places
+
+each_here : (P : Pair → Type 0) (ps : List Pair) (i : ℕ) (d : Pair) → i < length ps → AllByRecursion P ps → P (get_or ps i d)
+each_here P [] i d lt each = absurd (omega (arith, lt))
+each_here P (p ∷ ps) zero d lt each = each.0
+each_here P (p ∷ ps) (suc i) d lt each = each_here P ps i d (omega (arith, lt)) each.1
+
+-- the only pair of its base and remote address
+pub found_at : (base : ℕ) (e : Endpoint) (ps : List Pair) (i : ℕ) (d : Pair) → AreDistinct ps → i < length ps → is_at base e (get_or ps i d) ≡ true → find (is_at base e) ps ≡ Some (get_or ps i d)
+found_at base e ps i d distinct lt is =
+    let both = and_parts (base == (get_or ps i d).base) (is_endpoint e (get_or ps i d).remote) is in
+    ap (λ (n : ℕ). find (is_at n e) ps) (eqb-true base (get_or ps i d).base both.0)
+    ∙ ap (λ (x : Endpoint). find (is_at (get_or ps i d).base x) ps) (endpoint_same e (get_or ps i d).remote both.1)
+    ∙ each_here (IsFirst ps) ps i d lt (all_first ps distinct)
+
+-- no pair before the next place passes, if none before this one does, and the one here doesn't
+pub none_here : (test : Pair → Bool) (ps : List Pair) (i : ℕ) (d : Pair) → i < length ps → test (get_or ps i d) ≡ false → find test ps ≡ find test (drop i ps) → find test ps ≡ find test (drop (i + 1) ps)
+none_here test ps i d lt isnt so_far =
+    so_far ∙ ap (find test) (drop_more ps i d lt)
+    ∙ cond-false (test (get_or ps i d)) (Some (get_or ps i d)) (find test (drop (i + 1) ps)) isnt
 
 -- one more pair of those from one place on
 pub with_step : {X : Type 0} (most : ℕ) (new : X → Pair) (test : X → Bool) (xs : List X) (at : ℕ) (d x : X) (p : Pair) (ps qs : List Pair) → 0 < at → at ≤ length xs → x ≡ get_or xs (at - 1) d → test x ≡ true → p ≡ new x

@@ -5,6 +5,7 @@ pub mod Outputs
 pub mod Changes
 pub mod Waking
 pub mod Quiet
+pub mod Places
 pub mod Statuses
 pub mod Reports
 pub mod Restarts

@@ -71,6 +71,8 @@ pub struct AgentState {
     pub(crate) next_request_at: u128,
     /// Until when time changes no pair and no request.
     pub(crate) quiet_until: u128,
+    /// The place of the pair that data came from last.
+    pub(crate) latest: usize,
 }
 
 impl Model for AgentState {
@@ -154,6 +156,7 @@ impl AgentState {
             requests,
             next_request_at: 0,
             quiet_until: 0,
+            latest: 0,
         })
     }
 

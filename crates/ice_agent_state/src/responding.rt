@@ -133,7 +133,7 @@ fn copy_of(pair: Option<&Pair>) -> Option<Pair>
     }
 }
 
-pub(crate) fn find_pair(pairs: &[Pair], base: u32, to: Endpoint) -> Option<Pair>
+fn find_pair(pairs: &[Pair], base: u32, to: Endpoint) -> Option<Pair>
     ensures { result ≡ find (state.is_at base to) pairs.now }
 {
     copy_of(find_there(pairs, base, to))
