@@ -1,8 +1,8 @@
 -- Loops over pairs, from the end.
-use Rattle.std.proofs.Common.{◌≡◌, ℕ, zero, suc, ◌+◌, ◌-◌, ◌<◌, ◌≤◌, Bool, true, false, cond, List, [], ◌∷◌, length, find, drop, filter, map, get_or, Option, None, Some, refl, sym, ap, ◌∙◌, subst, eqb-true, arith}
+use Rattle.std.proofs.Common.{◌≡◌, ℕ, zero, suc, ◌+◌, ◌-◌, ◌<◌, ◌≤◌, Bool, true, false, cond, List, [], ◌∷◌, length, find, set, inl, inr, drop, filter, map, get_or, Option, None, Some, refl, sym, ap, ◌∙◌, subst, eqb-true, arith}
 use Rattle.std.specs.Prelude.{nat_lt, ◌==◌, option_map}
-use Rattle.std.specs.List.{AllByRecursion}
-use Rattle.std.proofs.lemmas.Bool.{cond-true, cond-false, lt-ltb, and_parts}
+use Rattle.std.specs.List.{AllByRecursion, list_any}
+use Rattle.std.proofs.lemmas.Bool.{cond-true, cond-false, lt-ltb, and_parts, or_left, or_right, cases_Bool}
 use Rattle.std.proofs.lemmas.Bool.Decides.{nat_tests}
 use Rattle.std.proofs.lemmas.List.{drop_more}
 use Rattle.stun_endpoints.specs.Endpoints.{is_endpoint}
@@ -12,6 +12,7 @@ use Rattle.ice_machine.specs.declared.pairs.Pair.{Pair}
 use Rattle.ice_machine.specs.declared.pairs.PairState.TheVariants.{Frozen}
 use Rattle.ice_machine.specs.Agents.{is_at}
 use Rattle.ice_machine.specs.Bounds.{AreDistinct}
+use Rattle.ice_machine.specs.Steps.{changed_first}
 use Rattle.ice_machine.proofs.RightLemmas.{IsGood, best_good}
 use Rattle.ice_machine.proofs.SilenceLemmas.{IsFirst, all_first}
 use Rattle.ice_machine.specs.Pairs.{better, best, with_pair, with_pairs}
@@ -92,6 +93,43 @@ found_at base e ps i d distinct lt is =
     ap (λ (n : ℕ). find (is_at n e) ps) (eqb-true base (get_or ps i d).base both.0)
     ∙ ap (λ (x : Endpoint). find (is_at (get_or ps i d).base x) ps) (endpoint_same e (get_or ps i d).remote both.1)
     ∙ each_here (IsFirst ps) ps i d lt (all_first ps distinct)
+
+pub any_here : (test : Pair → Bool) (ps : List Pair) (i : ℕ) (d : Pair) → i < length ps → test (get_or ps i d) ≡ true → list_any test ps ≡ true
+any_here test [] i d lt is = absurd (omega (arith, lt))
+any_here test (p ∷ ps) zero d lt is = or_left (test p) (list_any test ps) is
+any_here test (p ∷ ps) (suc i) d lt is = or_right (test p) (list_any test ps) (any_here test ps i d (omega (arith, lt)) is)
+
+never : (P : Type 0) (b : Bool) → b ≡ true → b ≡ false → P
+never P true is isnt = absurd cc
+never P false is isnt = absurd cc
+
+-- a pair of one place doesn't pass, if a later one does
+not_here : (base : ℕ) (e : Endpoint) (p : Pair) (ps : List Pair) → list_any (is_at p.base p.remote) ps ≡ false → (i : ℕ) (d : Pair) → i < length ps → is_at base e (get_or ps i d) ≡ true → is_at base e p ≡ false
+not_here base e p ps none i d lt is = elim (cases_Bool (is_at base e p)) as (λ x. is_at base e p ≡ false) [
+  | inl same ↦ let both = and_parts (base == p.base) (is_endpoint e p.remote) same in
+      let some = any_here (is_at base e) ps i d lt is in
+      never (is_at base e p ≡ false) (list_any (is_at p.base p.remote) ps) (subst (λ (n : ℕ). list_any (is_at n p.remote) ps ≡ true) (eqb-true base p.base both.0) (subst (λ (x : Endpoint). list_any (is_at base x) ps ≡ true) (endpoint_same e p.remote both.1) some)) none
+  | inr other ↦ other
+]
+
+-- the only pair of its base and remote address is changed
+pub changed_at : (base : ℕ) (e : Endpoint) (change : Pair → Pair) (ps : List Pair) (i : ℕ) (d : Pair) → AreDistinct ps → i < length ps → is_at base e (get_or ps i d) ≡ true → set ps i (change (get_or ps i d)) ≡ changed_first (is_at base e) change ps
+changed_at base e change [] i d distinct lt is = absurd (omega (arith, lt))
+changed_at base e change (p ∷ ps) zero d distinct lt is = sym (cond-true (is_at base e p) (change p ∷ ps) (p ∷ changed_first (is_at base e) change ps) is)
+changed_at base e change (p ∷ ps) (suc i) d distinct lt is =
+    let less : i < length ps = omega (arith, lt) in
+    ap (λ (qs : List Pair). p ∷ qs) (changed_at base e change ps i d distinct.1 less is)
+    ∙ sym (cond-false (is_at base e p) (change p ∷ ps) (p ∷ changed_first (is_at base e) change ps) (not_here base e p ps distinct.0 i d less is))
+
+none_if : (b : Bool) (p : Pair) (o : Option Pair) → cond b (Some p) o ≡ None → (b ≡ false) × (o ≡ None)
+none_if true p o is = absurd cc
+none_if false p o is = (refl, is)
+
+pub none_changed : (test : Pair → Bool) (change : Pair → Pair) (ps : List Pair) → find test ps ≡ None → ps ≡ changed_first test change ps
+none_changed test change [] none = refl
+none_changed test change (p ∷ ps) none =
+    let both = none_if (test p) p (find test ps) none in
+    ap (λ (qs : List Pair). p ∷ qs) (none_changed test change ps both.1) ∙ sym (cond-false (test p) (change p ∷ ps) (p ∷ changed_first test change ps) both.0)
 
 -- no pair before the next place passes, if none before this one does, and the one here doesn't
 pub none_here : (test : Pair → Bool) (ps : List Pair) (i : ℕ) (d : Pair) → i < length ps → test (get_or ps i d) ≡ false → find test ps ≡ find test (drop i ps) → find test ps ≡ find test (drop (i + 1) ps)

@@ -86,6 +86,9 @@ base_distinct room b rs ps qs is distinct = subst AreDistinct (sym is) ((goes_wi
 pub remote_distinct : (room : ℕ) (r : Remote) (bs : List Base) (ps qs : List Pair) → qs ≡ with_pairs room (map {B = Pair} (λ b. pair_of b r) (filter (λ b. fits b r) bs)) ps → AreDistinct ps → AreDistinct qs
 remote_distinct room r bs ps qs is distinct = subst AreDistinct (sym is) ((goes_with_all room (map {B = Pair} (λ b. pair_of b r) (filter (λ b. fits b r) bs)) ps).distinct distinct)
 
+pub new_distinct : (room : ℕ) (p : Pair) (ps qs : List Pair) → qs ≡ with_pair room p ps → AreDistinct ps → AreDistinct qs
+new_distinct room p ps qs is distinct = subst AreDistinct (sym is) ((goes_with room p ps).distinct distinct)
+
 -- ---- A check of the peer
 
 triggers_tried : (most : ℕ) (p : Pair) → IsTried most p → IsTried most (triggers p)

@@ -71,7 +71,7 @@ pub struct AgentState {
     pub(crate) next_request_at: u128,
     /// Until when time changes no pair and no request.
     pub(crate) quiet_until: u128,
-    /// The place of the pair that data came from last.
+    /// The place of the pair that a check or data came from last, as a guess.
     pub(crate) latest: usize,
 }
 

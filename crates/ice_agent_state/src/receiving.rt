@@ -30,7 +30,7 @@ fn place_of(pairs: &[Pair], base: u32, remote: Endpoint) -> Option<usize>
 }
 
 /// The same, with a place to look at first.
-fn place_from(pairs: &[Pair], first: usize, base: u32, remote: Endpoint) -> Option<usize>
+pub(crate) fn place_from(pairs: &[Pair], first: usize, base: u32, remote: Endpoint) -> Option<usize>
     ensures { IsPlace (state.is_at base remote) pairs.now result }
 {
     if first < pairs.len() && is_at(&pairs[first], base, remote) {
