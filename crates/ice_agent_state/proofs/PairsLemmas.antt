@@ -1,10 +1,9 @@
 -- Loops over pairs, from the end.
-use Rattle.std.proofs.Common.{◌≡◌, ℕ, zero, suc, ◌+◌, ◌-◌, ◌<◌, ◌≤◌, Bool, true, false, cond, List, [], ◌∷◌, length, find, set, inl, inr, drop, filter, map, get_or, Option, None, Some, refl, sym, ap, ◌∙◌, subst, eqb-true, arith}
+use Rattle.std.proofs.Common.{◌≡◌, ℕ, zero, suc, ◌-◌, ◌<◌, ◌≤◌, Bool, true, false, cond, List, [], ◌∷◌, length, find, set, inl, inr, drop, filter, map, get_or, Option, None, Some, refl, sym, ap, ◌∙◌, subst, eqb-true, arith}
 use Rattle.std.specs.Prelude.{nat_lt, ◌==◌, option_map}
 use Rattle.std.specs.List.{AllByRecursion, list_any}
 use Rattle.std.proofs.lemmas.Bool.{cond-true, cond-false, lt-ltb, and_parts, or_left, or_right, cases_Bool}
 use Rattle.std.proofs.lemmas.Bool.Decides.{nat_tests}
-use Rattle.std.proofs.lemmas.List.{drop_more}
 use Rattle.stun_endpoints.specs.Endpoints.{is_endpoint}
 use Rattle.stun_endpoints.proofs.AddressesLemmas.{endpoint_same}
 use Rattle.stun_endpoints.specs.declared.endpoints.Endpoint.{Endpoint}
@@ -130,12 +129,6 @@ none_changed test change [] none = refl
 none_changed test change (p ∷ ps) none =
     let both = none_if (test p) p (find test ps) none in
     ap (λ (qs : List Pair). p ∷ qs) (none_changed test change ps both.1) ∙ sym (cond-false (test p) (change p ∷ ps) (p ∷ changed_first test change ps) both.0)
-
--- no pair before the next place passes, if none before this one does, and the one here doesn't
-pub none_here : (test : Pair → Bool) (ps : List Pair) (i : ℕ) (d : Pair) → i < length ps → test (get_or ps i d) ≡ false → find test ps ≡ find test (drop i ps) → find test ps ≡ find test (drop (i + 1) ps)
-none_here test ps i d lt isnt so_far =
-    so_far ∙ ap (find test) (drop_more ps i d lt)
-    ∙ cond-false (test (get_or ps i d)) (Some (get_or ps i d)) (find test (drop (i + 1) ps)) isnt
 
 -- one more pair of those from one place on
 pub with_step : {X : Type 0} (most : ℕ) (new : X → Pair) (test : X → Bool) (xs : List X) (at : ℕ) (d x : X) (p : Pair) (ps qs : List Pair) → 0 < at → at ≤ length xs → x ≡ get_or xs (at - 1) d → test x ≡ true → p ≡ new x

@@ -74,7 +74,7 @@ pub(crate) fn drop_late(requests: &mut Vec<Request>, now: u128)
     requests.retain_mut(|r| is_waited_for(now, r));
 }
 
-/// A moment, if the caller's clock can show it, and else one after all of these.
+/// A moment; if the caller's clock can't show it, one after all that it can.
 pub(crate) fn moment_of(moment: Option<u128>) -> u128
     ensures { result ≡ capped moment }
 {
