@@ -260,7 +260,7 @@ def declared():
 def in_c(kind):
     """What a type of Rattle may be in C: the types of one field, or of two, for each."""
     names = {of: name for name, of in TYPES.items()}
-    if kind in ("KeyPlace", "TurnPlace", "AllocationPlace"):
+    if kind in ("KeyPlace", "TurnPlace", "AllocationPlace", "IcePlace"):
         return [("*void",)]
     many = re.fullmatch(r"&'a \[(\w+)\]", kind)
     if many:
