@@ -1915,8 +1915,7 @@ typedef struct {
     stun_types_ice_path path;         /* CONNECTED: of the selected pair; otherwise zeros */
     stun_types_ice_progress progress;
     stun_types_ice_role role;         /* the agent's, which a role conflict may have changed */
-    uint32_t pairs;                   /* how many pairs the agent has, of all components */
-    uint32_t reserved;
+    size_t pairs;                     /* how many pairs the agent has, of all components */
 } stun_types_ice_standing;
 
 /* What a component has come to at the latest moment of a call: true. False, and all zeros: there is no
@@ -2355,7 +2354,6 @@ STUN_TYPES_LAYOUT(ice_standing_path, offsetof(stun_types_ice_standing, path) == 
 STUN_TYPES_LAYOUT(ice_standing_progress, offsetof(stun_types_ice_standing, progress) == 24);
 STUN_TYPES_LAYOUT(ice_standing_role, offsetof(stun_types_ice_standing, role) == 28);
 STUN_TYPES_LAYOUT(ice_standing_pairs, offsetof(stun_types_ice_standing, pairs) == 32);
-STUN_TYPES_LAYOUT(ice_standing_reserved, offsetof(stun_types_ice_standing, reserved) == 36);
 STUN_TYPES_LAYOUT(ice_checked_size, sizeof(stun_types_ice_checked) == 56);
 STUN_TYPES_LAYOUT(ice_checked_until, offsetof(stun_types_ice_checked, until) == 0);
 STUN_TYPES_LAYOUT(ice_checked_remote, offsetof(stun_types_ice_checked, remote) == 8);
