@@ -1868,7 +1868,7 @@ typedef struct {
    BAD_ARGUMENT, and nothing has changed: there is no agent, or the family of from is neither 4 nor 6.
    TOO_SMALL: out has no room for the response; the datagram counts, and the response is lost. TOO_LARGE: a
    420 would list more types than a message has room for. It allocates nothing. */
-STUN_TYPES_NODISCARD STUN_TYPES_NONNULL((1, 4, 8, 10))
+STUN_TYPES_NODISCARD STUN_TYPES_NONNULL((1, 4, 10))
 stun_types_answer stun_types_ice_datagram(stun_types_ice *agent, uint64_t now, uint32_t base,
                                           const stun_types_address *from, const uint8_t *datagram,
                                           size_t length, uint64_t random, uint8_t *out, size_t size,
@@ -2016,7 +2016,7 @@ stun_types_answer stun_types_ice_candidate_read(const void *line, size_t length,
    BAD_ARGUMENT: a field of the candidate, of a family other than 4 and 6 in address, and other than these
    and 0 in related. TOO_SMALL: text has the first bytes of it, and *written is size; 200 bytes have room
    for any. */
-STUN_TYPES_NODISCARD STUN_TYPES_NONNULL((1, 2, 4))
+STUN_TYPES_NODISCARD STUN_TYPES_NONNULL((1, 4))
 stun_types_answer stun_types_ice_candidate_write(const stun_types_ice_candidate *candidate, char *text,
                                                  size_t size, size_t *written);
 

@@ -1,6 +1,7 @@
 -- Candidates as lines of text, as C sees them (RFC 8839, section 5.1).
-use Rattle.std.specs.Prelude.{◌≡◌, ℕ, Bool, List, [], length, take, min, replicate, Option, None, Some, MatchOption, MatchResult, option_and_then, unwrap_or, nat_lt, ◌==◌, if◌then◌else◌}
+use Rattle.std.specs.Prelude.{◌≡◌, ℕ, Bool, List, [], length, take, min, replicate, Option, None, Some, MatchOption, option_and_then, unwrap_or, nat_lt, ◌==◌, if◌then◌else◌}
 use Rattle.std.specs.Option.{option_map}
+use Rattle.std.specs.Result.{result_ok}
 use Rattle.std.specs.Str.{is_utf8}
 use Rattle.std.specs.declared.net.ip_addr.IpAddr.{IpAddr}
 use Rattle.stun_text.specs.Slices.{laid_over}
@@ -56,12 +57,14 @@ pub record HoldsCandidate (fields : Fields) (c : CIceCandidate) : Type 0 where
   pub transport_is : c.transport ≡ transport_number fields.protocol
   pub kind_is : c.kind ≡ kind_number fields.kind
 
+-- the candidate that a line describes, if it is a text and describes one
+abbrev pub candidate_in : (line : List ℕ) → Option Fields
+candidate_in line = if is_utf8 line then result_ok (read_candidate line) else None
+
 abbrev pub ReadsCandidate : (line : List ℕ) → CResult → (old new : CIceCandidate) → Type 0
 ReadsCandidate line result old new =
-    if is_utf8 line then
-    MatchResult (read_candidate line) (λ fields. (result ≡ plain OK) × HoldsCandidate fields new)
-    (λ e. Refuses (plain INVALID_DATA) result old new)
-    else Refuses (plain INVALID_DATA) result old new
+    MatchOption (candidate_in line) (Refuses (plain INVALID_DATA) result old new)
+    (λ fields. (result ≡ plain OK) × HoldsCandidate fields new)
 
 -- ---- Writing
 

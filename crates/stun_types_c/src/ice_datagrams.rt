@@ -80,7 +80,7 @@ pub(crate) const NO_PATH: CIcePath = CIcePath {
 
 /// What comes of a datagram, in C's form.
 fn received_in_c(received: Received<'_>) -> CIceReceived
-    ensures { result ≡ received_in_c received }
+    ensures { result ≡ received_in_c received.entry }
 {
     match received {
         Received::Nothing => NOTHING,
@@ -99,7 +99,7 @@ fn received_in_c(received: Received<'_>) -> CIceReceived
 
 /// What comes of a datagram that an agent has taken.
 fn taken_in_c(taken: Result<Received<'_>, StunWriteError>, received: &mut CIceReceived) -> CResult
-    ensures { IsReceived taken result received.new }
+    ensures { IsReceived taken.entry result received.new }
 {
     match taken {
         Ok(taken) => {

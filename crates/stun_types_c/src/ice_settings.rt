@@ -1,7 +1,7 @@
 //! Making an ICE agent, and ending it.
 
-ghost use Rattle.std.specs.Prelude.{◌≡◌, ◌⊎◌, ◌×◌, ◌≤◌, ◌&&◌, None, Some, All, IfOk, IsTrue, MatchOption, MatchResult, is_some, box_value, not};
-ghost use Rattle.std.specs.Option.{option_map};
+ghost use Rattle.std.specs.Prelude.{◌≡◌, ◌⊎◌, ◌≤◌, ⊤, true, false, None, Some, All, IfOk, MatchOption, MatchResult, is_some, box_value, not};
+ghost use Rattle.std.specs.Option.{option_map, option_or};
 ghost use Rattle.stun_attributes.specs.Texts.{text_bytes};
 ghost use Rattle.ice_attrs.specs.CheckUsernames.{ufrag_text};
 ghost use Rattle.ice_agent.specs.Agents.{IsLogin, met};
