@@ -1950,7 +1950,7 @@ typedef struct {
 /* The pair of this number, from 0, the newest first, as it is at the latest moment of a call: true. False,
    and all zeros: there are no more, or there is no agent. It allocates nothing. */
 STUN_TYPES_NODISCARD STUN_TYPES_NONNULL((1, 3))
-bool stun_types_ice_pair(stun_types_ice *agent, size_t number, stun_types_ice_checked *pair);
+bool stun_types_ice_pair(stun_types_ice *agent, uint32_t number, stun_types_ice_checked *pair);
 
 typedef STUN_TYPES_ENUM(stun_types_ice_change_kind) {
     STUN_TYPES_ICE_UNCHANGED = 0,

@@ -342,7 +342,7 @@ static void test_ice_agents(void) {
     stun_types_ices_free(NULL, 0);
     ANSWERS(stun_types_ice_candidate_read(NULL, 0, read), PLAIN(STUN_TYPES_INVALID_DATA));
     ANSWERS(stun_types_ice_candidate_write(&candidate, NULL, 0, written),
-            LENGTHS(STUN_TYPES_TOO_SMALL, 48, 0));
+            LENGTHS(STUN_TYPES_TOO_SMALL, 44, 0));
     CHECK(*written == 0);
 }
 

@@ -425,7 +425,8 @@ static const guarded_call calls[] = {
      {ICE_AGENT, {READ, sizeof(stun_types_ice_base), 4, "00*18 0400"}}},
     {"stun_types_ice_add_remote", ice_add_remote,
      {ICE_AGENT, {READ, sizeof(stun_types_ice_remote), 4, "00*18 0400 01000000"}}},
-    {"stun_types_ice_add_address", ice_add_address, {ICE_AGENT, ADDRESS}},
+    {"stun_types_ice_add_address", ice_add_address,
+     {ICE_AGENT, {READ, sizeof(stun_types_address), 2, "00*18 0400"}}},
     {"stun_types_ice_datagram", ice_datagram,
      {ICE_AGENT, ADDRESS, BYTES(28, USER), ROOM(64, ""), ZEROED(sizeof(stun_types_ice_received))}},
     {"stun_types_ice_poll", ice_poll,
@@ -543,9 +544,11 @@ static void make_client(stun_types_allocation *client) {
     heap_allow(false);
 }
 
-/* Makes the agent that calls are given. */
+/* Makes the agent that calls are given: it has the candidates that they add. */
 static void make_agent(stun_types_ice *agent) {
     static const stun_types_ice none = STUN_TYPES_ICE_INIT;
+    static const stun_types_ice_base base = {0, 0, 0, 0, 0, 4, 0, 0};
+    static const stun_types_ice_remote remote = {{{0}, 0, 4}, 1, 0, 0, 0};
     stun_types_ice_settings settings;
     memset(&settings, 0, sizeof settings);
     settings.ufrag = "evtj";
@@ -557,6 +560,9 @@ static void make_agent(stun_types_ice *agent) {
     heap_allow(true);
     ANSWERS(stun_types_ice_new(agent, &settings), OK_ANSWER);
     heap_allow(false);
+    ANSWERS(stun_types_ice_add_base(agent, 0, &base), OK_ANSWER);
+    ANSWERS(stun_types_ice_add_remote(agent, 0, &remote), OK_ANSWER);
+    ANSWERS(stun_types_ice_add_address(agent, &remote.address), OK_ANSWER);
 }
 
 /* Calls of an agent that return false: a path, a pair or a change of which the first or the last bytes are the

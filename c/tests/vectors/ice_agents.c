@@ -19,7 +19,7 @@ static const stun_types_address signalled = {{198, 51, 100, 254}, 9, 4};
 static stun_types_ice *agent;
 static stun_types_key own_key, peer_key;
 static uint64_t now;
-static bool is_met;
+static bool is_met, is_refused;
 /* When it wants to be polled, if nothing has come since a poll reported it. */
 static bool is_awake;
 static uint64_t wakes;
@@ -277,6 +277,7 @@ static void meet(void) {
         stun_types_ice_set_peer(agent, now, fragment.bytes, fragment.length, password.bytes, password.length);
     if (answer.code == STUN_TYPES_EXISTS) CHECK(is_met);
     else if (is_taken(answer)) is_met = true;
+    else is_refused = true;
 }
 
 static void check(void) {
@@ -304,13 +305,25 @@ static void check(void) {
     answer_response(&received, out, id, &from);
 }
 
-/* Whether a response counts: it comes to the base and from the address of a request. */
+/* The state of a pair; 0 if there is none. */
+static stun_types_ice_pair_state state_of(uint32_t base, const stun_types_address *remote) {
+    stun_types_ice_checked *it = NEW(stun_types_ice_checked);
+    uint32_t number;
+    for (number = 0; stun_types_ice_pair(agent, number, it); number++)
+        if (it->base == base && turn_is_same_address(&it->remote, remote)) return it->state;
+    return (stun_types_ice_pair_state)0;
+}
+
+/* Whether a response counts: it comes to the base and from the address of a request, whose pair hasn't
+   failed by now. */
 static bool counts(uint64_t id, uint32_t base, const stun_types_address *from) {
     size_t at;
     bool is_same;
     for (at = 0; at < request_count && requests[at].id != id; at++) {}
     if (at == request_count) return false;
-    is_same = requests[at].base == base && turn_is_same_address(&requests[at].to, from);
+    pass();
+    is_same = state_of(base, from) != STUN_TYPES_ICE_PAIR_FAILED && requests[at].base == base
+        && turn_is_same_address(&requests[at].to, from);
     memmove(requests + at, requests + at + 1, (request_count - at - 1) * sizeof *requests);
     request_count--;
     return is_same;
@@ -324,6 +337,7 @@ static void respond(void) {
     const char *said = next_part(&word, ':');
     stun_types_address mapped = signalled;
     uint64_t random = 0;
+    bool is_counted;
     turn_message message;
     stun_types_ice_received received;
     uint8_t *out;
@@ -347,9 +361,10 @@ static void respond(void) {
         add(&message, STUN_TYPES_ATTRIBUTE_ERROR_CODE, value, sizeof value);
     }
     end_message(&message, &peer_key);
+    is_counted = counts(id, base, &from);
     received = take(random, base, &from, given(message.bytes, message.length), &out);
     CHECK(received.kind == STUN_TYPES_ICE_NOTHING);
-    answer_word(counts(id, base, &from) ? "counted" : "ignored");
+    answer_word(is_counted ? "counted" : "ignored");
 }
 
 /* A message that isn't authentic: a request that a response of a code may come to, or an indication. */
@@ -465,7 +480,7 @@ static void pair(void) {
     const uint32_t base = (uint32_t)call_count();
     const stun_types_address remote = call_endpoint();
     stun_types_ice_checked *it = NEW(stun_types_ice_checked);
-    size_t number;
+    uint32_t number;
     for (number = 0; stun_types_ice_pair(agent, number, it); number++)
         if (it->base == base && turn_is_same_address(&it->remote, &remote)) {
             CHECK(it->state >= 1 && it->state < COUNT(states) && it->triggered <= 1 && it->nominated <= 1);
@@ -609,7 +624,7 @@ static void answer_agent(void) {
     char *name;
     agent = (void *)copy(&none, sizeof none);
     now = 0;
-    is_met = is_awake = false;
+    is_met = is_refused = is_awake = false;
     request_count = 0;
     most_requests = settings.requests == 0 || settings.requests > MOST_REQUESTS ? MOST_REQUESTS
                                                                                  : settings.requests;
@@ -618,7 +633,7 @@ static void answer_agent(void) {
     answer = stun_types_ice_new(agent, (const void *)settings_given.bytes);
     heap_measure(true);
     if (is_taken(answer))
-        while ((name = call_word()) != NULL) event(name);
+        while (!is_refused && (name = call_word()) != NULL) event(name);
     answer_or_nothing();
     stun_types_ice_free(agent);
     CHECK(is_zero(agent, sizeof *agent));

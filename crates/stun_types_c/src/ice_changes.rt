@@ -206,10 +206,10 @@ fn pair_in_c(pair: &Pair) -> CIcePair
 }
 
 /// The pair of a number, if there is one.
-fn pair_at(core: &IceCore, number: usize, pair: &mut CIcePair) -> bool
+fn pair_at(core: &IceCore, number: u32, pair: &mut CIcePair) -> bool
     ensures { pair.old ≡ no_pair → HoldsPairAt number core.now.agent result pair.new }
 {
-    match core.agent.pairs().get(number) {
+    match core.agent.pairs().get(number as usize) {
         Some(found) => {
             *pair = pair_in_c(found);
             true
@@ -223,7 +223,7 @@ fn pair_at(core: &IceCore, number: usize, pair: &mut CIcePair) -> bool
 pub extern "C" fn stun_types_ice_pair(
     alloc: Global,
     agent: &mut CIce,
-    number: usize,
+    number: u32,
     pair: &mut CIcePair,
 ) -> bool
     ensures { ShowsPair number result pair.new (held_agent agent.old) (held_agent agent.new) }
