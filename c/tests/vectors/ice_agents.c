@@ -27,7 +27,7 @@ static uint64_t wakes;
 /* The requests that were written and that no response has come to, the newest first: whether a response
    counts, no call reports. */
 static struct {
-    uint64_t id;
+    uint64_t id, sent;
     uint32_t base;
     stun_types_address to;
 } requests[MOST_REQUESTS];
@@ -305,24 +305,14 @@ static void check(void) {
     answer_response(&received, out, id, &from);
 }
 
-/* The state of a pair; 0 if there is none. */
-static stun_types_ice_pair_state state_of(uint32_t base, const stun_types_address *remote) {
-    stun_types_ice_checked *it = NEW(stun_types_ice_checked);
-    uint32_t number;
-    for (number = 0; stun_types_ice_pair(agent, number, it); number++)
-        if (it->base == base && turn_is_same_address(&it->remote, remote)) return it->state;
-    return (stun_types_ice_pair_state)0;
-}
-
-/* Whether a response counts: it comes to the base and from the address of a request, whose pair hasn't
-   failed by now. */
+/* Whether a response counts: it comes to the base and from the address of a request, less than 30 seconds
+   after it. */
 static bool counts(uint64_t id, uint32_t base, const stun_types_address *from) {
     size_t at;
     bool is_same;
     for (at = 0; at < request_count && requests[at].id != id; at++) {}
     if (at == request_count) return false;
-    pass();
-    is_same = state_of(base, from) != STUN_TYPES_ICE_PAIR_FAILED && requests[at].base == base
+    is_same = now < requests[at].sent + 30 * (uint64_t)1000000000 && requests[at].base == base
         && turn_is_same_address(&requests[at].to, from);
     memmove(requests + at, requests + at + 1, (request_count - at - 1) * sizeof *requests);
     request_count--;
@@ -447,6 +437,7 @@ static void answer_request(const stun_types_ice_request *request, const uint8_t 
     if (request_count == most_requests) request_count--;
     memmove(requests + 1, requests, request_count * sizeof *requests);
     requests[0].id = id;
+    requests[0].sent = now;
     requests[0].base = request->base;
     requests[0].to = request->to;
     request_count++;
