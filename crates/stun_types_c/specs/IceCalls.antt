@@ -132,7 +132,7 @@ IsPath (Some route) result path = (result ≡ true) × HoldsRoute route path
 -- whatever the data is
 pub record RoutesIn (core : IceCore) (now component : ℕ) (result : Bool) (path : CIcePath) (kept : IceCore)
     : Type 0 where
-  pub kept_is : (bytes : List ℕ) → kept ≡ with_agent (passes now 0 (sends component bytes) core.agent) core
+  pub kept_is : (bytes : List ℕ) → kept.agent ≡ passes now 0 (sends component bytes) core.agent
   pub route : Option Route
   pub routes : (bytes : List ℕ) → output_at now 0 (sends component bytes) core.agent.held ≡ data_by bytes route
   pub in_c : IsPath route result path

@@ -81,16 +81,20 @@ agent_answer named =
     (option_or (login_answer named.ufrag.now named.password.now) (text_answer named.software.now))
 
 -- it has no candidates, and nothing was reported of it
-abbrev pub agent_of : CIceSettings → CheckedIce → (own : Login) → Agent
-agent_of named checked own = record {
+abbrev pub agent_with : CheckedIce → (tiebreaker : ℕ) → (own : Login) → (software : Option (List ℕ)) → Agent
+agent_with checked tiebreaker own software = record {
   held = record {
     setup = setup_of checked.settings;
-    state = begun (record { role = checked.role; tiebreaker = named.tiebreaker });
+    state = begun (record { role = checked.role; tiebreaker = tiebreaker });
   };
   reports = nothing_of checked.settings checked.role;
   logins = record { own = own; peer = None };
-  software = software_named named.software.now;
+  software = software;
 }
+
+abbrev pub agent_of : CIceSettings → CheckedIce → (own : Login) → Agent
+agent_of named checked own =
+    agent_with checked named.tiebreaker own (software_named named.software.now)
 
 pub record IsMadeBy (named : CIceSettings) (checked : CheckedIce) (core : IceCore) : Type 0 where
   pub own : Login

@@ -1,5 +1,5 @@
 -- Candidates as lines of text, as C sees them (RFC 8839, section 5.1).
-use Rattle.std.specs.Prelude.{◌≡◌, ℕ, Bool, List, [], length, take, min, replicate, Option, None, Some, MatchOption, option_and_then, unwrap_or, nat_lt, ◌==◌, if◌then◌else◌}
+use Rattle.std.specs.Prelude.{◌≡◌, ℕ, Bool, List, [], ◌++◌, length, take, drop, min, replicate, Option, None, Some, MatchOption, option_and_then, unwrap_or, nat_le, nat_lt, ◌==◌, if◌then◌else◌}
 use Rattle.std.specs.Option.{option_map}
 use Rattle.std.specs.Result.{result_ok}
 use Rattle.std.specs.Str.{is_utf8}
@@ -46,9 +46,13 @@ abbrev pub HoldsRelated : Option Place → (port : Option ℕ) → Address → T
 HoldsRelated None port address = address ≡ at_port (unwrap_or port 0)
 HoldsRelated (Some place) port address = HoldsPlace place (unwrap_or port 0) address
 
--- (a foundation has at most 32 letters)
+-- letters, at most 32, as a foundation has, and zeros
+abbrev pub lettered : List ℕ → List ℕ
+lettered text =
+    if nat_le (length text) 32 then text ++ drop (length text) (replicate 32 0) else replicate 32 0
+
 pub record HoldsCandidate (fields : Fields) (c : CIceCandidate) : Type 0 where
-  pub foundation_is : c.foundation ≡ laid_over fields.foundation (replicate 32 0)
+  pub foundation_is : c.foundation ≡ lettered fields.foundation
   pub foundation_length_is : c.foundation_length ≡ min (length fields.foundation) 32
   pub component_is : c.component ≡ fields.component
   pub priority_is : c.priority ≡ fields.priority

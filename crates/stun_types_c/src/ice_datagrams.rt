@@ -3,7 +3,7 @@
 ghost use Rattle.std.specs.Prelude.{◌≡◌, ℕ, List, Some, MatchOption};
 ghost use Rattle.ice_machine.specs.Events.{polls, sends};
 ghost use Rattle.ice_agent.specs.Agents.{passes};
-ghost use Rattle.stun_types_c.specs.IceCalls.{HoldsRequest, HoldsRoute, IsReceived, IsWritten, PollsAgent, ReceivesInC, RoutesData, RoutesIn, ShowsWake, TakesDatagram, WritesInC, no_path, no_received, no_request, received_in_c};
+ghost use Rattle.stun_types_c.specs.IceCalls.{HoldsRequest, HoldsRoute, IsPath, IsReceived, IsWritten, PollsAgent, ReceivesInC, RoutesData, RoutesIn, ShowsWake, TakesDatagram, WritesInC, no_path, no_received, no_request, received_in_c};
 ghost use Rattle.stun_types_c.specs.IceHandles.{held_agent};
 ghost use Rattle.stun_types_c.specs.IceMaking.{with_agent};
 
@@ -256,17 +256,28 @@ pub(crate) fn path_of(route: Route) -> CIcePath
     }
 }
 
-/// The path of data now, if there is one.
-fn route(core: &mut IceCore, now: u64, component: u16, path: &mut CIcePath) -> bool
-    ensures { path.old ≡ no_path → RoutesIn core.old now component result path.new core.new }
+/// A path of data, if there is one, in C's form.
+fn route_in_c(route: Option<Route>, path: &mut CIcePath) -> bool
+    ensures { IsPath route result path.new }
 {
-    match core.agent.route(now, component) {
+    match route {
         Some(route) => {
             *path = path_of(route);
             true
         }
-        None => false,
+        None => {
+            *path = NO_PATH;
+            false
+        }
     }
+}
+
+/// The path of data now, if there is one.
+fn route(core: &mut IceCore, now: u64, component: u16, path: &mut CIcePath) -> bool
+    ensures { RoutesIn core.old now component result path.new core.new }
+{
+    let found = core.agent.route(now, component);
+    route_in_c(found, path)
 }
 
 /// The path of a component's data now; false if it must not be sent.

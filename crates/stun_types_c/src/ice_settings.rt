@@ -5,14 +5,11 @@ ghost use Rattle.std.specs.Option.{option_map, option_or};
 ghost use Rattle.stun_attributes.specs.Texts.{text_bytes};
 ghost use Rattle.ice_attrs.specs.CheckUsernames.{ufrag_text};
 ghost use Rattle.ice_agent.specs.Agents.{IsLogin, met};
-ghost use Rattle.ice_agent_state.specs.Agents.{setup_of};
-ghost use Rattle.ice_agent_state.specs.Reports.{nothing_of};
-ghost use Rattle.ice_machine.specs.Runs.{begun};
 ghost use Rattle.stun_types_c.specs.AllocationMaking.{number_named};
 ghost use Rattle.stun_types_c.specs.CResults.{plain};
 ghost use Rattle.stun_types_c.specs.Codes.{OUT_OF_MEMORY};
 ghost use Rattle.stun_types_c.specs.IceHandles.{held_agent};
-ghost use Rattle.stun_types_c.specs.IceMaking.{IsMadeBy, MakesAgent, MeetsBy, SetsPeer, agent_answer, checked_named, is_fragment, login_answer, peer_result, role_named, settings_named, with_agent};
+ghost use Rattle.stun_types_c.specs.IceMaking.{IsMadeBy, MakesAgent, MeetsBy, SetsPeer, agent_answer, agent_with, checked_named, is_fragment, login_answer, peer_result, role_named, settings_named, with_agent};
 ghost use Rattle.stun_types_c.specs.Refusals.{text_answer};
 ghost use Rattle.stun_types_c.specs.Versions.{no_key};
 
@@ -195,17 +192,8 @@ fn core_of(
     tiebreaker: u64,
 ) -> Result<Box<IceCore>, AllocError>
     requires { checked.now.settings.most_tries ≤ 32 }
-    ensures { IfOk result (λ boxed. box_value boxed ≡ record {
-      agent = record {
-        held = record {
-          setup = setup_of checked.now.settings;
-          state = begun (record { role = checked.now.role; tiebreaker = tiebreaker });
-        };
-        reports = nothing_of checked.now.settings checked.now.role;
-        logins = record { own = own; peer = None };
-        software = option_map text_bytes software;
-      };
-    }) }
+    ensures { IfOk result (λ boxed. (box_value boxed).agent
+        ≡ agent_with checked.now tiebreaker own (option_map text_bytes software)) }
 {
     let agent = Agent::new(
         alloc,
@@ -219,6 +207,7 @@ fn core_of(
 }
 
 /// An agent by what C passes, whose numbers are in their ranges.
+#[tactic(auto, using(crate::proofs::IceLemmas::made))]
 fn made_by(
     alloc: Global,
     named: &CIceSettings<'_>,
@@ -281,6 +270,7 @@ fn set_peer(core: &mut IceCore, now: u64, peer: AgentCredentials) -> CResult
 }
 
 /// Sets the credentials of the peer, which C passes.
+#[tactic(auto, using(crate::proofs::IceLemmas::meets))]
 fn meet(alloc: Global, core: &mut IceCore, now: u64, ufrag: &[u8], password: &[u8]) -> CResult
     ensures { MeetsBy core.old now ufrag.now password.now result (Some core.old) (Some core.new) }
 {

@@ -6,7 +6,7 @@ ghost use Rattle.stun_text.specs.Slices.{laid_over};
 ghost use Rattle.ice_candidates.specs.Candidates.{ip};
 ghost use Rattle.ice_candidates.specs.Views.{fields, kind, place, protocol};
 ghost use Rattle.stun_types_c.specs.Addresses.{ip_named};
-ghost use Rattle.stun_types_c.specs.IceTexts.{HoldsCandidate, HoldsPlace, HoldsRelated, ReadsCandidate, WritesCandidate, candidate_named, foundation_named, kind_named, kind_number, related_named, transport_named, transport_number};
+ghost use Rattle.stun_types_c.specs.IceTexts.{HoldsCandidate, HoldsPlace, HoldsRelated, ReadsCandidate, WritesCandidate, candidate_named, foundation_named, kind_named, kind_number, lettered, related_named, transport_named, transport_number};
 
 use crate::address::{Address, in_c, socket_of};
 use crate::call_result::{CResult, counted, plain};
@@ -110,11 +110,13 @@ fn related_in_c(at: &Option<Place<'_>>, port: Option<u16>) -> Address
 
 /// The letters of a foundation, and zeros.
 fn foundation_in_c(text: &str) -> [u8; 32]
-    ensures { result ≡ laid_over text.now (replicate 32 0) }
+    ensures { result ≡ lettered text.now }
 {
     let mut foundation = [0; 32];
-    let count = text.len().min(32);
-    foundation[..count].copy_from_slice(&text.as_bytes()[..count]);
+    let count = text.len();
+    if count <= 32 {
+        foundation[..count].copy_from_slice(text.as_bytes());
+    }
     foundation
 }
 

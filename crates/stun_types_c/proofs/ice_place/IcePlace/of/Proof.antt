@@ -10,7 +10,7 @@ use types.ByLocal.{alloc_all, pass_all, free_all, look_at, get, get_in, sets}
 use types.Part.{agg, sub, whole}
 use contract.Monad.{fact, fact_i}
 use contract.Running.{tables}
-use denote.Exit.{no}
+use denote.Exit.{yes}
 use denote.RattleType.{owns}
 use denote.Signature.{types_at, plain}
 use denote.RawPtr.{ptr_val}
@@ -34,7 +34,7 @@ abbrev Taken : denote.RattleType.RattleType
 Taken = place.the_row Core Heap ghosts
 
 abbrev stayed : Stays ended.signature.params ended.kept
-stayed = (stay_dropped (plain (λ _. Taken)) no, tt)
+stayed = (stay_dropped (plain (λ _. Taken)) yes, tt)
 
 pub of_spec : {M : Type 1} → statement M
 of_spec 𝓤 𝓛 𝓜 𝓡 wired =
@@ -42,7 +42,7 @@ of_spec 𝓤 𝓛 𝓜 𝓡 wired =
     let 𝓣 = tables 𝓤 H 𝓜 𝓡 𝓡.env in
     let c = clauses 𝓛 𝓜.mem 𝓡.returns in
     let fn = code.function in
-    proved_at 𝓛 ended stayed c 𝓜 𝓡 (Goes-blank 𝓛 0 (plain (λ _. Taken)) no (λ κs x f. tt), tt)
+    proved_at 𝓛 ended stayed c 𝓜 𝓡 (Goes-blank 𝓛 0 (plain (λ _. Taken)) yes (λ κs x f. tt), tt)
     own_name fn (code.unfolded 𝓤 H 𝓜 𝓡 wired) (λ z are.
     let v = z.0.3.0 in
     let p = v.at in
