@@ -101,7 +101,7 @@ static bool write_candidate(candidate_kind kind, size_t number, const stun_types
     written.priority = priority_of(kind, number);
     written.address = *address;
     if (base != NULL) written.related = *base;
-    written.transport = STUN_TYPES_ICE_UDP;
+    written.transport = STUN_TYPES_UDP;
     written.kind = kinds[kind];
     memcpy(line, "a=", 2);
     if (!is_fine(stun_types_ice_candidate_write(&written, line + 2, LINE_ROOM - 3, &length))) return false;
@@ -144,7 +144,7 @@ static const char *after(const char *line, const char *word) {
 
 static void take_candidate_line(const char *line) {
     stun_types_ice_candidate read;
-    if (!is_fine(stun_types_ice_candidate_read(line, strlen(line), &read)) || read.transport != STUN_TYPES_ICE_UDP ||
+    if (!is_fine(stun_types_ice_candidate_read(line, strlen(line), &read)) || read.transport != STUN_TYPES_UDP ||
         read.component != 1 || (read.address.family != 4 && read.address.family != 6)) {
         skip_candidate();
         return;

@@ -16,7 +16,7 @@ typedef struct {
     size_t remotes, skipped;  /* candidates of the peer, and those that can't be used */
     char foundations[MOST_FOUNDATIONS][33];
     size_t foundation_count;
-    stun_types_ice_status status;
+    stun_types_ice_progress progress;
     uint64_t wake; /* in nanoseconds */
     uint64_t connect_until;
 } session;
@@ -313,7 +313,7 @@ static const char *name_of_base(size_t base) {
 
 void print_pairs(void) {
     static const char *const names[] = {"?", "frozen", "waiting", "in-progress", "succeeded", "failed", "lost"};
-    stun_types_ice_pair_info pair;
+    stun_types_ice_checked pair;
     for (size_t i = 0; stun_types_ice_pair(&current->agent, i, &pair); i++) {
         char from[ADDRESS_ROOM], to[ADDRESS_ROOM], tries[12];
         snprintf(tries, sizeof tries, "%u", (unsigned)pair.tries);
@@ -326,7 +326,7 @@ void print_pairs(void) {
 /* Says why there is no connection. Returns the status. */
 static int explain(void) {
     const session *of = current;
-    stun_types_ice_pair_info pair;
+    stun_types_ice_checked pair;
     unsigned pairs = 0, tried = 0, answered = 0, most = 0;
     for (; stun_types_ice_pair(&current->agent, pairs, &pair); pairs++) {
         if (pair.tries > 0) tried++;
@@ -357,17 +357,17 @@ static void take_selection(session *of, const stun_types_ice_change *change) {
 
 /* Another status of the connection. Returns the program's. */
 static int take_status(session *of, const stun_types_ice_change *change) {
-    of->status = change->status;
-    if (change->status == STUN_TYPES_ICE_CONNECTED) {
+    of->progress = change->progress;
+    if (change->progress == STUN_TYPES_ICE_CONNECTED) {
         of->connect_until = NEVER;
         take_selection(of, change);
     }
     if (of != current) return STATUS_DONE;
-    if (change->status == STUN_TYPES_ICE_FAILED) {
+    if (change->progress == STUN_TYPES_ICE_FAILED) {
         print_pairs();
         return explain();
     }
-    if (change->status != STUN_TYPES_ICE_LOST) return STATUS_DONE;
+    if (change->progress != STUN_TYPES_ICE_LOST) return STATUS_DONE;
     if (ice.peer_file != NULL) return restart_session("the peer's consent has expired");
     return fail(STATUS_SILENT, "the peer no longer answers: its consent has expired");
 }
@@ -376,12 +376,12 @@ static int take_change(session *of, const stun_types_ice_change *change) {
     char text[ADDRESS_ROOM];
     is_printing = true;
     switch (change->kind) {
-    case STUN_TYPES_ICE_ROLE_CHANGED:
+    case STUN_TYPES_ICE_ROLE:
         is_controlling = change->role == STUN_TYPES_ICE_CONTROLLING;
         report("role", "role", is_controlling ? "controlling" : "controlled", NULL);
         break;
     case STUN_TYPES_ICE_CONSENT_LOST: report_path("consent-lost", change); break;
-    case STUN_TYPES_ICE_STATUS_CHANGED: return take_status(of, change);
+    case STUN_TYPES_ICE_PROGRESS: return take_status(of, change);
     case STUN_TYPES_ICE_SELECTED: take_selection(of, change); break;
     case STUN_TYPES_ICE_DISCOVERED: report("discovered", "address", text_of(&change->address, text), NULL); break;
     default: break;
