@@ -27,9 +27,9 @@ USER = ["-u", turn_servers.USER]
 class Side:
     """A stun-ice that runs, perhaps on a host of a network; what it prints is kept."""
 
-    def __init__(self, program, *words, host=None, password=turn_servers.PASSWORD):
-        environment = {**os.environ, "STUN_PASSWORD": password}
-        pipes = dict.fromkeys(["stdin", "stdout", "stderr"], subprocess.PIPE)
+    def __init__(self, program, *words, host=None, output=subprocess.PIPE):
+        environment = {**os.environ, "STUN_PASSWORD": turn_servers.PASSWORD}
+        pipes = {"stdin": subprocess.PIPE, "stdout": output, "stderr": subprocess.PIPE}
         with host.inside() if host else contextlib.nullcontext():
             self.ran = subprocess.Popen([program, "--json", *map(str, words)], env=environment, **pipes)
         self.events, self.others, self.data = [], [], b""
@@ -45,7 +45,7 @@ class Side:
                 self.others.append(line.decode(errors="replace"))
 
     def read_data(self):
-        while piece := self.ran.stdout.read1(65536):
+        while piece := self.ran.stdout and self.ran.stdout.read1(65536):
             self.data += piece
 
     def found(self, event, count=1):
@@ -95,7 +95,7 @@ class Side:
         self.ran.wait()
         for reader in self.readers:
             reader.join()
-        for file in (self.ran.stdin, self.ran.stdout, self.ran.stderr):
+        for file in filter(None, (self.ran.stdin, self.ran.stdout, self.ran.stderr)):
             with contextlib.suppress(BrokenPipeError):
                 file.close()
 
@@ -234,13 +234,16 @@ def abandoned(programs):
         one.end(4)
 
 
-def closed_outputs(programs):
+def full_output(programs):
     """Standard output that can't be written ends it."""
-    with pair_of(programs["stun-ice"], LOCAL, LOCAL) as (one, other):
-        talk(one, other)
-        one.ran.stdout.close()
-        other.write(b"to nobody\n")
-        check(one.ran.wait(PATIENCE) == 3, f"status {one.ran.returncode}")
+    with tempfile.TemporaryDirectory(prefix="stun-ice-") as folder, open("/dev/full", "w") as full:
+        files = [f"{folder}/left", f"{folder}/right"]
+        with Side(programs["stun-ice"], *LOCAL, "-c", "-o", files[0], "-p", files[1], output=full) as one, \
+                Side(programs["stun-ice"], *LOCAL, "-o", files[1], "-p", files[0]) as other:
+            talk(one, other)
+            other.write(b"to nobody\n")
+            one.end(3)
+            check("standard output" in "".join(one.others), f"it says {one.others}")
 
 
 # ---- Networks
