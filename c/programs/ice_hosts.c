@@ -188,7 +188,7 @@ static void begin_request(host *of) {
     if (!of->is_asking) of->has_asked = true;
 }
 
-/* Goes on with a request. */
+/* Sends a request again when that is due, and ends it. */
 static void carry_request(host *of) {
     const socket_address *server = &stun_servers[of->address.family == 6];
     stun_types_action action;

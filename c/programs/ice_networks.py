@@ -37,7 +37,7 @@ KINDS = {
 LOSS = """
 table inet loss {
     chain forward { type filter hook forward priority 0; meta l4proto udp numgen random mod 100 < PERCENT counter drop; }
-    chain input { type filter hook input priority 0; meta l4proto udp numgen random mod 100 < PERCENT counter drop; }
+    chain input { type filter hook input priority 0; iifname != "lo" meta l4proto udp numgen random mod 100 < PERCENT counter drop; }
 }
 """
 

@@ -46,7 +46,7 @@ static relay_peer *find_peer(const stun_types_address *address) {
     return NULL;
 }
 
-/* A new peer; if there is no room, in the place of the oldest one without a channel. */
+/* A new peer; if there is no room, the oldest one without a channel is dropped. */
 static relay_peer *new_peer(const stun_types_address *address) {
     size_t at = 0;
     if (peer_count == MOST_PEERS) {

@@ -107,7 +107,7 @@ static int make_agent(void) {
     return STATUS_DONE;
 }
 
-/* Makes a session in the place of the current one. */
+/* Makes a session, which is the current one. */
 static int make_session(void) {
     memset(current, 0, sizeof *current);
     current->connect_until = NEVER;

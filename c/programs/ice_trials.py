@@ -323,7 +323,7 @@ def lossy_nats(programs):
 
 
 def direct_six(programs):
-    """Over IPv6, which no router translates, though the hosts' IPv4 addresses are behind symmetric NATs."""
+    """Over IPv6, which no router translates, though the IPv4 routers are symmetric NATs."""
     with Networks("symmetric", "symmetric") as network:
         with pair_of(programs["stun-ice"], [], [], hosts=sides_of(network)) as (one, other):
             pair = talk(one, other)
