@@ -3,9 +3,6 @@
 
 #include <sys/random.h>
 
-/* A pair that needs a second request, after 500 ms, is still preferred to a relay that was faster. */
-enum { PATIENCE = 600 };
-
 enum { COMPONENT = 1, CHECK_ROOM = 1500, OWN_FRAGMENT = 8, OWN_PASSWORD = 24, MOST_FOUNDATIONS = MOST_CANDIDATES };
 
 /* An agent, and the descriptions that it was made by. */
@@ -100,7 +97,6 @@ static int make_agent(void) {
     settings.role = is_controlling ? STUN_TYPES_ICE_CONTROLLING : STUN_TYPES_ICE_CONTROLLED;
     settings.pairs = MOST_PAIRS;
     settings.candidates = MOST_CANDIDATES;
-    settings.patience = PATIENCE;
     if (!draw_number(&settings.tiebreaker)) return say(STATUS_BROKEN, "no random bytes: %s", strerror(errno));
     stun_types_answer answer = stun_types_ice_new(&current->agent, &settings);
     if (!is_fine(answer)) return fails(answer);

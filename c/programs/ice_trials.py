@@ -302,8 +302,9 @@ def through(programs, left, right, loss):
 
 
 def nats(programs, loss=0):
-    """Each kind with each, of which two need the relay: symmetric ones with symmetric or port-restricted ones. Another
-    may use it if the direct pair is late; not three times in a row, unless datagrams are lost."""
+    """Each kind with each. Symmetric ones need the relay with symmetric or port-restricted ones, and may use it with
+    others, since whichever pair succeeds first may be nominated. Others connect directly, of three times at least
+    once, or loss is the reason."""
     direct = relays = 0
     for number, left in enumerate(KINDS):
         for right in list(KINDS)[number:]:
@@ -312,9 +313,10 @@ def nats(programs, loss=0):
                 by_relay, took = through(programs, left, right, loss)
                 direct, relays = direct + (not by_relay), relays + by_relay
                 print(f"  {left}, {right}: {'relayed' if by_relay else 'direct'}, {took:.1f} s", flush=True)
-                if by_relay == needed or loss:
+                if loss or right == "symmetric" or not by_relay:
                     break
-            check(by_relay >= needed if loss else by_relay == needed, f"{left}, {right}: {'always' if by_relay else 'not'} by the relay")
+            check(by_relay or not needed, f"{left}, {right}: directly")
+            check(loss or right == "symmetric" or not by_relay, f"{left}, {right}: always by the relay")
     print(f"  with {loss} % loss: {direct} direct, {relays} relayed", flush=True)
 
 
