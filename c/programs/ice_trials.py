@@ -234,6 +234,22 @@ def abandoned(programs):
         one.end(4)
 
 
+def lite(programs):
+    """A peer that only answers checks, which says that it is lite, or of which the user says so."""
+    for words, says in ((["-l"], ""), ([], "a=ice-lite;")):
+        command = [programs["ice_responder"], "127.0.0.1", "0", "abcd", "abcdefghijklmnopqrstuv", "7"]
+        with subprocess.Popen(command, stdin=subprocess.PIPE, stdout=subprocess.PIPE, text=True) as peer:
+            port = peer.stdout.readline().strip().rpartition(":")[2]
+            with Side(programs["stun-ice"], *LOCAL, *words) as one:
+                one.write(f"{says}a=ice-ufrag:abcd;a=ice-pwd:abcdefghijklmnopqrstuv;a=candidate:1 1 UDP 2130706431 "
+                          f"127.0.0.1 {port} typ host;a=end-of-candidates\n".encode())
+                one.wait_for("connected")
+                one.ran.send_signal(signal.SIGTERM)
+                one.end()
+            answered = peer.communicate(timeout=PATIENCE)[0]
+        check("nominated" in answered and "refused" not in answered, f"the peer says {answered!r}")
+
+
 def full_output(programs):
     """Standard output that can't be written ends it."""
     with tempfile.TemporaryDirectory(prefix="stun-ice-") as folder, open("/dev/full", "w") as full:
