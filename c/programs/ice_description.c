@@ -176,22 +176,31 @@ void take_line(const char *line, size_t length) {
     }
 }
 
-/* What the file was when it was read last. */
-static struct stat seen;
+/* What the file was when it was read, and when it was looked at last. */
+static struct stat seen, looked_at;
+
+static bool is_same_file(const struct stat *file, const struct stat *other) {
+    return file->st_ino == other->st_ino && file->st_size == other->st_size &&
+           file->st_mtim.tv_sec == other->st_mtim.tv_sec && file->st_mtim.tv_nsec == other->st_mtim.tv_nsec;
+}
+
+/* Whether the file is another one than that which was read, and no longer being written. */
+static bool has_changed(void) {
+    struct stat found;
+    if (stat(ice.peer_file, &found) != 0) return false;
+    bool is_still = is_same_file(&found, &looked_at);
+    looked_at = found;
+    if (!is_still || is_same_file(&found, &seen)) return false;
+    seen = found;
+    return true;
+}
 
 void read_peer_file(void) {
     static char text[DESCRIPTION_ROOM];
-    struct stat found;
-    if (stat(ice.peer_file, &found) != 0 || (found.st_ino == seen.st_ino && found.st_size == seen.st_size &&
-                                             found.st_mtim.tv_sec == seen.st_mtim.tv_sec &&
-                                             found.st_mtim.tv_nsec == seen.st_mtim.tv_nsec)) {
-        return;
-    }
-    FILE *from = fopen(ice.peer_file, "re");
+    FILE *from = has_changed() ? fopen(ice.peer_file, "re") : NULL;
     if (from == NULL) return;
     size_t length = fread(text, 1, sizeof text, from);
     fclose(from);
-    seen = found;
     for (size_t at = 0, end; at < length; at = end + 1) {
         for (end = at; end < length && text[end] != '\n';) end++;
         take_line(text + at, end - at);

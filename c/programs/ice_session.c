@@ -192,6 +192,7 @@ void take_fragment(const char *fragment, size_t length) {
         return;
     }
     memcpy(current->peer_fragment, read, sizeof read);
+    current->skipped = 0;
     meet();
 }
 

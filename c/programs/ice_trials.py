@@ -372,29 +372,43 @@ def consent(programs):
     print(f"  {total} datagrams of data left, the last one {last:.1f} s after the peer stopped", flush=True)
 
 
+def described_victim(port):
+    return ("a=ice-ufrag:abcd\na=ice-pwd:abcdefghijklmnopqrstuv\n"
+            f"a=candidate:1 1 UDP 2130706431 {INSIDE['right']} {port} typ host\na=end-of-candidates\n").encode()
+
+
 def victim(programs):
-    """A description with a victim's address: five requests go there, and nothing else."""
-    with Networks() as network, socket.socket() as _:
-        address = INSIDE["right"]
-        description = ("a=ice-ufrag:abcd;a=ice-pwd:abcdefghijklmnopqrstuv;"
-                       f"a=candidate:1 1 UDP 2130706431 {address} 4444 typ host;a=end-of-candidates\n")
-        with network.hosts["right"].inside(), socket.socket(socket.AF_INET, socket.SOCK_DGRAM) as _silent:
-            _silent.bind((address, 4444))
-            with Capture(network.server) as capture:
-                with Side(programs["stun-ice"], "-4", "-c", host=network.hosts["left"]) as one:
-                    one.write(description.encode())
-                    one.wait_for("failed")
-                    one.end(4)
-                capture.catch_up()
-    # (the server's host sees each datagram as it comes, and as it leaves)
-    count = sum(it[:2] == (address, 4444) for it in capture.seen)
-    check(count in (5, 10), f"{count} datagrams")
-    print(f"  {count if count == 5 else count // 2} datagrams to the victim", flush=True)
+    """A description with a victim's address: five requests go there, and nothing else. What other agents send to
+    another port of it meanwhile is counted too."""
+    others = dict(zip((4445, 4446), (libnice_command, aioice_command)))
+    with Networks() as network, contextlib.ExitStack() as all_of:
+        left, right = sides_of(network)
+        with right.inside():
+            for port in (4444, *others):
+                silent = all_of.enter_context(socket.socket(socket.AF_INET, socket.SOCK_DGRAM))
+                silent.bind((INSIDE["right"], port))
+        capture = all_of.enter_context(Capture(right))
+        for port, command in others.items():
+            with contextlib.suppress(Skipped):
+                other = all_of.enter_context(Echo(command(programs), "controlling", host=left))
+                other.described()
+                other.ran.stdin.write(described_victim(port))
+                other.ran.stdin.flush()
+        with Side(programs["stun-ice"], "-4", "-c", host=left) as one:
+            one.write(described_victim(4444))
+            one.wait_for("failed")
+            one.end(4)
+        time.sleep(20)
+        capture.catch_up()
+    counts = {port: sum(it[:2] == (INSIDE["right"], port) for it in capture.seen) for port in (4444, *others)}
+    check(counts[4444] == 5, f"{counts[4444]} datagrams")
+    print(f"  {counts[4444]} datagrams to the victim; of libnice {counts[4445]}, of aioice {counts[4446]}", flush=True)
 
 
 # ---- With other agents
 
-ALL = 10_000_000  # bytes, each way
+ALL, SOME = 10_000_000, 200_000  # bytes, each way
+ROLES = [("controlling", []), ("controlled", ["-c"]), ("controlling", ["-c"]), ("controlled", [])]
 
 
 class Echo:
@@ -420,7 +434,7 @@ class Echo:
         self.ran.communicate()
 
 
-def echo(one, all_of=ALL):
+def echo(one, all_of):
     """Sends as much as that, with no more than 100,000 bytes under way, and receives it again."""
     data, at, end = os.urandom(all_of), 0, time.monotonic() + 4 * PATIENCE
     while len(one.data) < all_of:
@@ -433,7 +447,7 @@ def echo(one, all_of=ALL):
     check(one.data == data, "other bytes came back")
 
 
-def with_other(programs, network, command, own, *words, all_of=ALL):
+def with_other(programs, network, command, own, all_of, *words):
     """Connects to another agent, and has it send back. Returns the time that it took."""
     left, right = sides_of(network)
     with Echo(command, *words, host=right) as other, Side(programs["stun-ice"], *own, host=left) as one:
@@ -449,27 +463,41 @@ def with_other(programs, network, command, own, *words, all_of=ALL):
     return took
 
 
-def libnice(programs):
-    """An agent of libnice in both roles, by regular and aggressive nomination; 10 MB each way."""
+def libnice_command(programs):
     status, flags, _ = run(["pkg-config", "--cflags", "--libs", "nice"])
     if status != 0 or not c_compiler():
         raise Skipped("it needs libnice with its headers (libnice-dev), pkg-config and a C compiler")
     program = f"{programs['folder']}/with_libnice"
     build(c_compiler(), "-Wall", "-Wextra", HERE / "sides/with_libnice.c", "-o", program, *flags.split())
-    with Networks() as network:
-        for role, own in (("controlling", []), ("controlled", ["-c"]), ("controlling", ["-c"]), ("controlled", [])):
-            for nomination in ("regular", "aggressive"):
-                took = with_other(programs, network, [program], own, role, nomination)
-                print(f"  libnice {role}, {nomination}, ours {'controlling' if own else 'controlled'}: {took:.2f} s",
-                      flush=True)
+    return [program]
 
 
-def aioice(programs):
-    """An agent of aioice in both roles; 10 MB each way."""
+def aioice_command(_):
     command = ["/usr/bin/python3", "-B", str(HERE / "sides/with_aioice.py")]
     if run([command[0], "-c", "import aioice"])[0] != 0:
         raise Skipped("it needs aioice, a package of Python")
+    return command
+
+
+def libnice(programs):
+    """An agent of libnice in both roles, by regular and aggressive nomination, also if both or none control; 10 MB each
+    way in each role."""
+    command = libnice_command(programs)
     with Networks() as network:
-        for role, own in (("controlling", []), ("controlled", ["-c"]), ("controlling", ["-c"]), ("controlled", [])):
-            took = with_other(programs, network, command, own, role)
-            print(f"  aioice {role}, ours {'controlling' if own else 'controlled'}: {took:.2f} s", flush=True)
+        for number, (role, own) in enumerate(ROLES):
+            for nomination in ("regular", "aggressive"):
+                all_of = ALL if number < 2 and nomination == "regular" else SOME
+                took = with_other(programs, network, command, own, all_of, role, nomination)
+                print(f"  libnice {role}, {nomination}, ours {'controlling' if own else 'controlled'}: {took:.2f} s, "
+                      f"{all_of} bytes each way", flush=True)
+
+
+def aioice(programs):
+    """An agent of aioice likewise."""
+    command = aioice_command(programs)
+    with Networks() as network:
+        for number, (role, own) in enumerate(ROLES):
+            all_of = ALL if number < 2 else SOME
+            took = with_other(programs, network, command, own, all_of, role)
+            print(f"  aioice {role}, ours {'controlling' if own else 'controlled'}: {took:.2f} s, {all_of} bytes each "
+                  "way", flush=True)

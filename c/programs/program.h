@@ -23,7 +23,7 @@ typedef struct {
     char port[6];
 } target;
 
-/* What both programs take. */
+/* What the programs take. */
 typedef struct {
     const char *program; /* its name, for messages */
     target server;

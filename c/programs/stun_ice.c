@@ -54,7 +54,7 @@ enum {
     QUEUE_ROOM = 1 << 20, /* bytes for standard output */
     PIPE_PIECE = 4096,    /* what a pipe takes at once if it takes anything */
     MOST_AT_A_TURN = 64,
-    FILE_INTERVAL = 100,  /* milliseconds */
+    FILE_INTERVAL = 50,   /* milliseconds */
     END_INTERVAL = 1000,
     LAST_ENDS = 5,
     LAST_INTERVAL = 50,

@@ -1,4 +1,4 @@
-"""An agent of aioice that sends back what it receives: with_aioice.py ROLE [STUN-SERVER PORT]. It prints its
+"""An agent of aioice that sends back what it receives: with_aioice.py ROLE. It prints its
 description, up to a=end-of-candidates, and reads the other's likewise."""
 import asyncio
 import sys
@@ -6,8 +6,8 @@ import sys
 from aioice import Candidate, Connection
 
 
-async def main(role, *server):
-    connection = Connection(role == "controlling", stun_server=(server[0], int(server[1])) if server else None)
+async def main(role):
+    connection = Connection(role == "controlling", stun_server=None)
     await connection.gather_candidates()
     lines = [f"ice-ufrag:{connection.local_username}", f"ice-pwd:{connection.local_password}"]
     lines += [f"candidate:{it.to_sdp()}" for it in connection.local_candidates]
@@ -28,4 +28,4 @@ async def main(role, *server):
             await connection.send(data)
 
 
-asyncio.run(main(*sys.argv[1:]))
+asyncio.run(main(sys.argv[1]))

@@ -1,4 +1,4 @@
-/* An agent of libnice that sends back what it receives: with_libnice ROLE NOMINATION [STUN-SERVER PORT].
+/* An agent of libnice that sends back what it receives: with_libnice ROLE [NOMINATION].
  * It prints its description, up to a=end-of-candidates, and reads the other's likewise. */
 #include <agent.h>
 #include <stdio.h>
@@ -42,14 +42,13 @@ static void changed(NiceAgent *agent, guint stream, guint component, guint state
 }
 
 int main(int count, char **words) {
-    if (count < 3) return 2;
+    if (count < 2) return 2;
     GMainLoop *loop = g_main_loop_new(NULL, FALSE);
     GMainContext *context = g_main_loop_get_context(loop);
-    NiceAgentOption options = strcmp(words[2], "regular") == 0 ? NICE_AGENT_OPTION_REGULAR_NOMINATION : 0;
+    NiceAgentOption options = count > 2 && strcmp(words[2], "regular") == 0 ? NICE_AGENT_OPTION_REGULAR_NOMINATION : 0;
     NiceAgent *agent = nice_agent_new_full(context, NICE_COMPATIBILITY_RFC5245, options | NICE_AGENT_OPTION_CONSENT_FRESHNESS);
     side own = {.agent = agent};
     g_object_set(agent, "controlling-mode", strcmp(words[1], "controlling") == 0, "upnp", FALSE, "ice-tcp", FALSE, NULL);
-    if (count > 4) g_object_set(agent, "stun-server", words[3], "stun-server-port", atoi(words[4]), NULL);
     g_signal_connect(agent, "candidate-gathering-done", G_CALLBACK(gathered), &own);
     g_signal_connect(agent, "component-state-changed", G_CALLBACK(changed), &own);
     own.stream = nice_agent_add_stream(agent, 1);
