@@ -435,11 +435,11 @@ class Echo:
 
 
 def echo(one, all_of):
-    """Sends as much as that, with no more than 100,000 bytes under way, and receives it again."""
+    """Sends as much as that, with no more under way than a socket has room for, and receives it again."""
     data, at, end = os.urandom(all_of), 0, time.monotonic() + 4 * PATIENCE
     while len(one.data) < all_of:
         check(time.monotonic() < end, f"{len(one.data)} of {at} bytes came back: {one.told()}")
-        if at < all_of and at - len(one.data) < 100_000:
+        if at < all_of and at - len(one.data) < 30_000:
             one.write(data[at : at + 1200])
             at += 1200
         else:
