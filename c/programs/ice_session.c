@@ -315,7 +315,7 @@ static const char *name_of_base(size_t base) {
 void print_pairs(void) {
     static const char *const names[] = {"?", "frozen", "waiting", "in-progress", "succeeded", "failed", "lost"};
     stun_types_ice_checked pair;
-    for (size_t i = 0; stun_types_ice_pair(&current->agent, i, &pair); i++) {
+    for (uint32_t i = 0; stun_types_ice_pair(&current->agent, i, &pair); i++) {
         char from[ADDRESS_ROOM], to[ADDRESS_ROOM], tries[12];
         snprintf(tries, sizeof tries, "%u", (unsigned)pair.tries);
         report("pair", "base", name_of_base(pair.base), "from", text_of(&bases[pair.base].address, from), "to",
@@ -328,7 +328,8 @@ void print_pairs(void) {
 static int explain(void) {
     const session *of = current;
     stun_types_ice_checked pair;
-    unsigned pairs = 0, tried = 0, answered = 0, most = 0;
+    uint32_t pairs = 0;
+    unsigned tried = 0, answered = 0, most = 0;
     for (; stun_types_ice_pair(&current->agent, pairs, &pair); pairs++) {
         if (pair.tries > 0) tried++;
         if (pair.state == STUN_TYPES_ICE_PAIR_SUCCEEDED || pair.state == STUN_TYPES_ICE_PAIR_LOST) answered++;
@@ -337,7 +338,7 @@ static int explain(void) {
     if (!of->has_peer) return fail(STATUS_SILENT, "the peer has described nothing");
     if (of->remotes == 0) return fail(STATUS_SILENT, "no candidate of the peer can be used; it has %zu", of->skipped);
     if (pairs == 0) return fail(STATUS_SILENT, "no candidate of the peer has an address family of this side's");
-    if (answered > 0) return fail(STATUS_SILENT, "%u of %u pairs answered, and none was nominated", answered, pairs);
+    if (answered > 0) return fail(STATUS_SILENT, "%u of %u pairs answered, and none was nominated", answered, (unsigned)pairs);
     return fail(STATUS_SILENT, "no pair answered: %u tried, each by up to %u requests", tried, most);
 }
 
