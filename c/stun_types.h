@@ -1868,7 +1868,7 @@ typedef struct {
    BAD_ARGUMENT, and nothing has changed: there is no agent, or the family of from is neither 4 nor 6.
    TOO_SMALL: out has no room for the response; the datagram counts, and the response is lost. TOO_LARGE: a
    420 would list more types than a message has room for. It allocates nothing. */
-STUN_TYPES_NODISCARD STUN_TYPES_NONNULL((1, 4, 8, 10))
+STUN_TYPES_NODISCARD STUN_TYPES_NONNULL((1, 4, 10))
 stun_types_answer stun_types_ice_datagram(stun_types_ice *agent, uint64_t now, uint32_t base,
                                           const stun_types_address *from, const uint8_t *datagram,
                                           size_t length, uint64_t random, uint8_t *out, size_t size,
@@ -1915,8 +1915,7 @@ typedef struct {
     stun_types_ice_path path;         /* CONNECTED: of the selected pair; otherwise zeros */
     stun_types_ice_progress progress;
     stun_types_ice_role role;         /* the agent's, which a role conflict may have changed */
-    uint32_t pairs;                   /* how many pairs the agent has, of all components */
-    uint32_t reserved;
+    size_t pairs;                     /* how many pairs the agent has, of all components */
 } stun_types_ice_standing;
 
 /* What a component has come to at the latest moment of a call: true. False, and all zeros: there is no
@@ -1951,7 +1950,7 @@ typedef struct {
 /* The pair of this number, from 0, the newest first, as it is at the latest moment of a call: true. False,
    and all zeros: there are no more, or there is no agent. It allocates nothing. */
 STUN_TYPES_NODISCARD STUN_TYPES_NONNULL((1, 3))
-bool stun_types_ice_pair(stun_types_ice *agent, size_t number, stun_types_ice_checked *pair);
+bool stun_types_ice_pair(stun_types_ice *agent, uint32_t number, stun_types_ice_checked *pair);
 
 typedef STUN_TYPES_ENUM(stun_types_ice_change_kind) {
     STUN_TYPES_ICE_UNCHANGED = 0,
@@ -2017,7 +2016,7 @@ stun_types_answer stun_types_ice_candidate_read(const void *line, size_t length,
    BAD_ARGUMENT: a field of the candidate, of a family other than 4 and 6 in address, and other than these
    and 0 in related. TOO_SMALL: text has the first bytes of it, and *written is size; 200 bytes have room
    for any. */
-STUN_TYPES_NODISCARD STUN_TYPES_NONNULL((1, 2, 4))
+STUN_TYPES_NODISCARD STUN_TYPES_NONNULL((1, 4))
 stun_types_answer stun_types_ice_candidate_write(const stun_types_ice_candidate *candidate, char *text,
                                                  size_t size, size_t *written);
 
@@ -2355,7 +2354,6 @@ STUN_TYPES_LAYOUT(ice_standing_path, offsetof(stun_types_ice_standing, path) == 
 STUN_TYPES_LAYOUT(ice_standing_progress, offsetof(stun_types_ice_standing, progress) == 24);
 STUN_TYPES_LAYOUT(ice_standing_role, offsetof(stun_types_ice_standing, role) == 28);
 STUN_TYPES_LAYOUT(ice_standing_pairs, offsetof(stun_types_ice_standing, pairs) == 32);
-STUN_TYPES_LAYOUT(ice_standing_reserved, offsetof(stun_types_ice_standing, reserved) == 36);
 STUN_TYPES_LAYOUT(ice_checked_size, sizeof(stun_types_ice_checked) == 56);
 STUN_TYPES_LAYOUT(ice_checked_until, offsetof(stun_types_ice_checked, until) == 0);
 STUN_TYPES_LAYOUT(ice_checked_remote, offsetof(stun_types_ice_checked, remote) == 8);

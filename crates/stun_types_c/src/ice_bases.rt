@@ -1,5 +1,12 @@
 //! The candidates of an ICE agent.
 
+ghost use Rattle.std.specs.Prelude.{◌≡◌};
+ghost use Rattle.ice_machine.specs.Events.{ends, gathers, learns};
+ghost use Rattle.ice_agent.specs.Agents.{passes};
+ghost use Rattle.stun_types_c.specs.IceCandidates.{AddsAddress, AddsBase, AddsRemote, EndsCandidates, added_result, address_result, base_named, base_result, family_named, noted, remote_named, remote_result};
+ghost use Rattle.stun_types_c.specs.IceHandles.{held_agent};
+ghost use Rattle.stun_types_c.specs.IceMaking.{with_agent};
+
 use crate::address::Address;
 use crate::allocation_settings::endpoint_in;
 use crate::call_result::{CResult, plain};
@@ -51,6 +58,7 @@ pub struct CIceRemote {
 
 /// What adding a candidate returns.
 fn added_result(added: Result<(), AddError>) -> CResult
+    ensures { result ≡ added_result added }
 {
     match added {
         Ok(()) => plain(codes::OK),
@@ -61,6 +69,7 @@ fn added_result(added: Result<(), AddError>) -> CResult
 
 /// The address family of a number.
 fn family_of(number: u16) -> Option<u8>
+    ensures { result ≡ family_named number }
 {
     match number {
         4 => Some(1),
@@ -71,6 +80,7 @@ fn family_of(number: u16) -> Option<u8>
 
 /// The base that C names.
 fn base_of(named: &CIceBase) -> Option<Base>
+    ensures { result ≡ base_named named.now }
 {
     if named.reserved != 0 {
         return None;
@@ -89,6 +99,7 @@ fn base_of(named: &CIceBase) -> Option<Base>
 
 /// The candidate of the peer that C names.
 fn remote_of(named: &CIceRemote) -> Option<Remote>
+    ensures { result ≡ remote_named named.now }
 {
     if named.reserved != 0 || named.foundation == 0 {
         return None;
@@ -104,24 +115,31 @@ fn remote_of(named: &CIceRemote) -> Option<Remote>
 
 /// Adds a base.
 fn add_base(core: &mut IceCore, now: u64, base: Base) -> CResult
+    ensures result { result ≡ base_result base core.old.agent }
+    ensures state { core.new ≡ with_agent (passes now 0 (gathers base) core.old.agent) core.old }
 {
     added_result(core.agent.add_base(now, base))
 }
 
 /// Adds a candidate of the peer.
 fn add_remote(core: &mut IceCore, now: u64, remote: Remote) -> CResult
+    ensures result { result ≡ remote_result remote core.old.agent }
+    ensures state { core.new ≡ with_agent (passes now 0 (learns remote) core.old.agent) core.old }
 {
     added_result(core.agent.add_remote(now, remote))
 }
 
 /// Notes an address.
 fn add_address(core: &mut IceCore, address: Endpoint) -> CResult
+    ensures result { result ≡ address_result address core.old.agent }
+    ensures state { core.new ≡ with_agent (noted address core.old.agent) core.old }
 {
     added_result(core.agent.add_address(address))
 }
 
 /// Lets no more candidates follow.
 fn end_candidates(core: &mut IceCore, now: u64)
+    ensures { core.new ≡ with_agent (passes now 0 ends core.old.agent) core.old }
 {
     core.agent.end_candidates(now);
 }
@@ -134,6 +152,7 @@ pub extern "C" fn stun_types_ice_add_base(
     now: u64,
     base: &CIceBase,
 ) -> CResult
+    ensures { AddsBase now base.now result (held_agent agent.old) (held_agent agent.new) }
 {
     let Some(base) = base_of(base) else {
         return plain(codes::BAD_ARGUMENT);
@@ -154,6 +173,7 @@ pub extern "C" fn stun_types_ice_add_remote(
     now: u64,
     remote: &CIceRemote,
 ) -> CResult
+    ensures { AddsRemote now remote.now result (held_agent agent.old) (held_agent agent.new) }
 {
     let Some(remote) = remote_of(remote) else {
         return plain(codes::BAD_ARGUMENT);
@@ -173,6 +193,7 @@ pub extern "C" fn stun_types_ice_add_address(
     agent: &mut CIce,
     address: &Address,
 ) -> CResult
+    ensures { AddsAddress address.now result (held_agent agent.old) (held_agent agent.new) }
 {
     let Some(address) = endpoint_in(address) else {
         return plain(codes::BAD_ARGUMENT);
@@ -192,6 +213,7 @@ pub extern "C" fn stun_types_ice_end_candidates(
     agent: &mut CIce,
     now: u64,
 ) -> CResult
+    ensures { EndsCandidates now result (held_agent agent.old) (held_agent agent.new) }
 {
     let Some(mut core) = take(agent, alloc) else {
         return plain(codes::BAD_ARGUMENT);

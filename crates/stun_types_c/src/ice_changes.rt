@@ -1,5 +1,9 @@
 //! What an ICE agent has come to, and what has changed.
 
+ghost use Rattle.std.specs.Prelude.{◌≡◌};
+ghost use Rattle.stun_types_c.specs.IceChanges.{HoldsPair, HoldsPairAt, HoldsPath, HoldsStanding, IsAbout, IsChange, IsProgress, ReportsChange, ReportsIn, ShowsPair, ShowsStanding, is_there, no_change, no_pair, progress_number, role_number, state_number};
+ghost use Rattle.stun_types_c.specs.IceHandles.{held_agent};
+
 use crate::address::Address;
 use crate::handle::{put, take};
 use crate::ice_core::IceCore;
@@ -23,9 +27,7 @@ pub struct CIceStanding {
     /// The number of the agent's role.
     pub role: u32,
     /// How many pairs the agent has, of all components.
-    pub pairs: u32,
-    /// 0.
-    pub reserved: u32,
+    pub pairs: usize,
 }
 
 /// A candidate pair.
@@ -80,7 +82,6 @@ const NO_STANDING: CIceStanding = CIceStanding {
     progress: 0,
     role: 0,
     pairs: 0,
-    reserved: 0,
 };
 
 /// There is no pair.
@@ -110,6 +111,7 @@ const NO_CHANGE: CIceChange = CIceChange {
 
 /// The number of a role.
 fn role_number(role: Role) -> u32
+    ensures { result ≡ role_number role }
 {
     match role {
         Role::Controlling => 1,
@@ -119,6 +121,7 @@ fn role_number(role: Role) -> u32
 
 /// The number of a status.
 fn progress_number(status: Status) -> u32
+    ensures { result ≡ progress_number status }
 {
     match status {
         Status::Checking => 1,
@@ -130,6 +133,7 @@ fn progress_number(status: Status) -> u32
 
 /// The path of a status.
 fn status_path(status: Status) -> CIcePath
+    ensures { HoldsPath status result }
 {
     match status {
         Status::Connected(route) => path_of(route),
@@ -139,14 +143,14 @@ fn status_path(status: Status) -> CIcePath
 
 /// What a component has come to, in C's form.
 fn standing_of(core: &IceCore, component: u16) -> CIceStanding
+    ensures { HoldsStanding core.now.agent component result }
 {
     let status = core.agent.status(component);
     CIceStanding {
         path: status_path(status),
         progress: progress_number(status),
         role: role_number(core.agent.role()),
-        pairs: core.agent.pairs().len() as u32,
-        reserved: 0,
+        pairs: core.agent.pairs().len(),
     }
 }
 
@@ -158,6 +162,7 @@ pub extern "C" fn stun_types_ice_status(
     component: u16,
     standing: &mut CIceStanding,
 ) -> bool
+    ensures { ShowsStanding component result standing.new (held_agent agent.old) (held_agent agent.new) }
 {
     *standing = NO_STANDING;
     let Some(core) = take(agent, alloc) else {
@@ -170,6 +175,7 @@ pub extern "C" fn stun_types_ice_status(
 
 /// The number of a state.
 fn state_number(state: PairState) -> u32
+    ensures { result ≡ state_number state }
 {
     match state {
         PairState::Frozen => 1,
@@ -183,6 +189,7 @@ fn state_number(state: PairState) -> u32
 
 /// A pair, in C's form.
 fn pair_in_c(pair: &Pair) -> CIcePair
+    ensures { HoldsPair pair.now result }
 {
     CIcePair {
         until: shown_due(pair.expires_at),
@@ -199,9 +206,10 @@ fn pair_in_c(pair: &Pair) -> CIcePair
 }
 
 /// The pair of a number, if there is one.
-fn pair_at(core: &IceCore, number: usize, pair: &mut CIcePair) -> bool
+fn pair_at(core: &IceCore, number: u32, pair: &mut CIcePair) -> bool
+    ensures { pair.old ≡ no_pair → HoldsPairAt number core.now.agent result pair.new }
 {
-    match core.agent.pairs().get(number) {
+    match core.agent.pairs().get(number as usize) {
         Some(found) => {
             *pair = pair_in_c(found);
             true
@@ -215,9 +223,10 @@ fn pair_at(core: &IceCore, number: usize, pair: &mut CIcePair) -> bool
 pub extern "C" fn stun_types_ice_pair(
     alloc: Global,
     agent: &mut CIce,
-    number: usize,
+    number: u32,
     pair: &mut CIcePair,
 ) -> bool
+    ensures { ShowsPair number result pair.new (held_agent agent.old) (held_agent agent.new) }
 {
     *pair = NO_PAIR;
     let Some(core) = take(agent, alloc) else {
@@ -230,6 +239,7 @@ pub extern "C" fn stun_types_ice_pair(
 
 /// The role has changed.
 fn role_changed(role: Role) -> CIceChange
+    ensures { IsChange (Change.Role role) result }
 {
     CIceChange {
         kind: 1,
@@ -240,6 +250,7 @@ fn role_changed(role: Role) -> CIceChange
 
 /// The consent for a pair has expired, or another pair is selected.
 fn route_changed(kind: u32, component: u16, route: Route) -> CIceChange
+    ensures { IsAbout (is_there route.to) route.base kind 0 0 component result }
 {
     CIceChange {
         address: address_of(route.to),
@@ -252,6 +263,7 @@ fn route_changed(kind: u32, component: u16, route: Route) -> CIceChange
 
 /// The status has changed.
 fn status_changed(component: u16, status: Status) -> CIceChange
+    ensures { IsProgress component status result }
 {
     let path = status_path(status);
     CIceChange {
@@ -266,6 +278,7 @@ fn status_changed(component: u16, status: Status) -> CIceChange
 
 /// A peer-reflexive candidate is discovered.
 fn discovered(base: u32, address: Endpoint) -> CIceChange
+    ensures { IsChange (Change.Discovered base address) result }
 {
     CIceChange {
         address: address_of(address),
@@ -277,6 +290,7 @@ fn discovered(base: u32, address: Endpoint) -> CIceChange
 
 /// A change, in C's form.
 fn change_in_c(change: Change) -> CIceChange
+    ensures { IsChange change result }
 {
     match change {
         Change::Role(role) => role_changed(role),
@@ -289,6 +303,7 @@ fn change_in_c(change: Change) -> CIceChange
 
 /// The first change that isn't reported yet, if there is one.
 fn next_of(core: &mut IceCore, change: &mut CIceChange) -> bool
+    ensures { change.old ≡ no_change → ReportsIn core.old result change.new core.new }
 {
     match core.agent.next_change() {
         Some(next) => {
@@ -306,6 +321,7 @@ pub extern "C" fn stun_types_ice_changes(
     agent: &mut CIce,
     change: &mut CIceChange,
 ) -> bool
+    ensures { ReportsChange result change.new (held_agent agent.old) (held_agent agent.new) }
 {
     *change = NO_CHANGE;
     let Some(mut core) = take(agent, alloc) else {

@@ -1,5 +1,12 @@
 //! What an ICE agent receives, and what it sends.
 
+ghost use Rattle.std.specs.Prelude.{◌≡◌, ℕ, List, Some, MatchOption};
+ghost use Rattle.ice_machine.specs.Events.{polls, sends};
+ghost use Rattle.ice_agent.specs.Agents.{passes};
+ghost use Rattle.stun_types_c.specs.IceCalls.{HoldsRequest, HoldsRoute, IsReceived, IsWritten, PollsAgent, ReceivesInC, RoutesData, RoutesIn, ShowsWake, TakesDatagram, WritesInC, no_path, no_received, no_request, received_in_c};
+ghost use Rattle.stun_types_c.specs.IceHandles.{held_agent};
+ghost use Rattle.stun_types_c.specs.IceMaking.{with_agent};
+
 use crate::address::Address;
 use crate::allocation_settings::endpoint_in;
 use crate::call_result::{CResult, plain, write_result};
@@ -73,6 +80,7 @@ pub(crate) const NO_PATH: CIcePath = CIcePath {
 
 /// What comes of a datagram, in C's form.
 fn received_in_c(received: Received<'_>) -> CIceReceived
+    ensures { result ≡ received_in_c received.entry }
 {
     match received {
         Received::Nothing => NOTHING,
@@ -90,10 +98,8 @@ fn received_in_c(received: Received<'_>) -> CIceReceived
 }
 
 /// What comes of a datagram that an agent has taken.
-fn taken_in_c(
-    taken: Result<Received<'_>, StunWriteError>,
-    received: &mut CIceReceived,
-) -> CResult
+fn taken_in_c(taken: Result<Received<'_>, StunWriteError>, received: &mut CIceReceived) -> CResult
+    ensures { IsReceived taken.entry result received.new }
 {
     match taken {
         Ok(taken) => {
@@ -119,6 +125,7 @@ fn receive(
     out: &mut [u8],
     received: &mut CIceReceived,
 ) -> CResult
+    ensures { ReceivesInC core.old now random base from datagram.now result out.old out.new received.new core.new }
 {
     let taken = core
         .agent
@@ -139,6 +146,9 @@ pub extern "C" fn stun_types_ice_datagram(
     out: &mut [u8],
     received: &mut CIceReceived,
 ) -> CResult
+    ensures { TakesDatagram now random base from.now datagram.now result
+        (record { core = held_agent agent.old; slice = out.old; received = no_received })
+        (record { core = held_agent agent.new; slice = out.new; received = received.new }) }
 {
     *received = NOTHING;
     let Some(from) = endpoint_in(from) else {
@@ -156,12 +166,14 @@ pub extern "C" fn stun_types_ice_datagram(
 
 /// The moment of the next poll that does something; the greatest number if there is none.
 fn wake_of(core: &IceCore) -> u64
+    ensures { ShowsWake core.now.agent.held result }
 {
     core.agent.next_wake().unwrap_or(u64::MAX)
 }
 
 /// A request, in C's form.
 fn request_in_c(sending: Option<Sending>) -> CIceRequest
+    ensures { MatchOption sending (result ≡ no_request) (λ request. HoldsRequest request result) }
 {
     match sending {
         Some(sending) => CIceRequest {
@@ -178,6 +190,7 @@ fn written_in_c(
     written: Result<Option<Sending>, StunWriteError>,
     request: &mut CIceRequest,
 ) -> CResult
+    ensures { IsWritten written result request.new }
 {
     match written {
         Ok(sending) => {
@@ -200,6 +213,8 @@ fn poll(
     out: &mut [u8],
     request: &mut CIceRequest,
 ) -> CResult
+    ensures state { core.new ≡ with_agent (passes now id polls core.old.agent) core.old }
+    ensures writes { WritesInC core.old now id result out.old out.new request.new }
 {
     let written = core.agent.poll(alloc, now, id, out);
     written_in_c(written, request)
@@ -216,6 +231,9 @@ pub extern "C" fn stun_types_ice_poll(
     request: &mut CIceRequest,
     wake: &mut u64,
 ) -> CResult
+    ensures { PollsAgent now id.now result
+        (record { core = held_agent agent.old; slice = out.old; request = no_request; wake = wake.old })
+        (record { core = held_agent agent.new; slice = out.new; request = request.new; wake = wake.new }) }
 {
     *request = NO_REQUEST;
     let Some(mut core) = take(agent, alloc) else {
@@ -230,6 +248,7 @@ pub extern "C" fn stun_types_ice_poll(
 
 /// A path, in C's form.
 pub(crate) fn path_of(route: Route) -> CIcePath
+    ensures { HoldsRoute route result }
 {
     CIcePath {
         to: address_of(route.to),
@@ -239,6 +258,7 @@ pub(crate) fn path_of(route: Route) -> CIcePath
 
 /// The path of data now, if there is one.
 fn route(core: &mut IceCore, now: u64, component: u16, path: &mut CIcePath) -> bool
+    ensures { path.old ≡ no_path → RoutesIn core.old now component result path.new core.new }
 {
     match core.agent.route(now, component) {
         Some(route) => {
@@ -258,6 +278,7 @@ pub extern "C" fn stun_types_ice_route(
     component: u16,
     path: &mut CIcePath,
 ) -> bool
+    ensures { RoutesData now component result path.new (held_agent agent.old) (held_agent agent.new) }
 {
     *path = NO_PATH;
     let Some(mut core) = take(agent, alloc) else {

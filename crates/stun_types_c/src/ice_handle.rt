@@ -2,9 +2,9 @@
 ghost use Rattle.std.specs.Prelude.{◌≡◌, Some, is_some, box_value};
 ghost use Rattle.stun_types_c.specs.IceMarks.{holds_ice};
 
+use crate::handle::Handle;
 use crate::ice_core::IceCore;
 use crate::ice_place::IcePlace;
-use crate::handle::Handle;
 use crate::place::Place;
 use std::alloc::Global;
 

@@ -1,5 +1,21 @@
 //! Making an ICE agent, and ending it.
 
+ghost use Rattle.std.specs.Prelude.{◌≡◌, ◌⊎◌, ◌≤◌, ⊤, true, false, None, Some, All, IfOk, MatchOption, MatchResult, is_some, box_value, not};
+ghost use Rattle.std.specs.Option.{option_map, option_or};
+ghost use Rattle.stun_attributes.specs.Texts.{text_bytes};
+ghost use Rattle.ice_attrs.specs.CheckUsernames.{ufrag_text};
+ghost use Rattle.ice_agent.specs.Agents.{IsLogin, met};
+ghost use Rattle.ice_agent_state.specs.Agents.{setup_of};
+ghost use Rattle.ice_agent_state.specs.Reports.{nothing_of};
+ghost use Rattle.ice_machine.specs.Runs.{begun};
+ghost use Rattle.stun_types_c.specs.AllocationMaking.{number_named};
+ghost use Rattle.stun_types_c.specs.CResults.{plain};
+ghost use Rattle.stun_types_c.specs.Codes.{OUT_OF_MEMORY};
+ghost use Rattle.stun_types_c.specs.IceHandles.{held_agent};
+ghost use Rattle.stun_types_c.specs.IceMaking.{IsMadeBy, MakesAgent, MeetsBy, SetsPeer, agent_answer, checked_named, is_fragment, login_answer, peer_result, role_named, settings_named, with_agent};
+ghost use Rattle.stun_types_c.specs.Refusals.{text_answer};
+ghost use Rattle.stun_types_c.specs.Versions.{no_key};
+
 use crate::allocation_settings::{times_of, wait_of};
 use crate::call_result::{CResult, plain, write_result};
 use crate::codes;
@@ -56,6 +72,7 @@ pub(crate) struct CheckedIce {
 /// A handle that holds no agent, as C declares it: the words of `CIce`.
 #[unsafe(no_mangle)]
 pub extern "C" fn stun_types_ice_none() -> NoKey
+    ensures { result ≡ no_key }
 {
     NoKey { at: 0, held: 0 }
 }
@@ -63,12 +80,14 @@ pub extern "C" fn stun_types_ice_none() -> NoKey
 /// Ends the agents that the handles hold. Of a handle that holds none it does nothing.
 #[unsafe(no_mangle)]
 pub extern "C" fn stun_types_ices_free(alloc: Global, agents: &mut [CIce])
+    ensures { All (λ agent. held_agent agent ≡ None) agents.new }
 {
     release_all(agents, alloc);
 }
 
 /// The role of a number.
 pub(crate) fn role_of(number: u32) -> Option<Role>
+    ensures { result ≡ role_named number }
 {
     match number {
         1 => Some(Role::Controlling),
@@ -79,6 +98,7 @@ pub(crate) fn role_of(number: u32) -> Option<Role>
 
 /// A number of things that are kept.
 fn count_of(usual: u32, number: u32) -> Option<u32>
+    ensures { result ≡ number_named 4096 usual number }
 {
     if number == 0 {
         return Some(usual);
@@ -91,6 +111,7 @@ fn count_of(usual: u32, number: u32) -> Option<u32>
 
 /// A number of requests of a check.
 fn tries_of(number: u32) -> Option<u8>
+    ensures value { result ≡ number_named 32 5 number }
 {
     if number > 32 {
         return None;
@@ -100,6 +121,8 @@ fn tries_of(number: u32) -> Option<u8>
 
 /// The settings of an agent, if each number is in its range.
 fn settings_of(named: &CIceSettings<'_>) -> Option<Settings>
+    ensures value { result ≡ settings_named named.now }
+    ensures few { MatchOption result ⊤ (λ settings. settings.most_tries ≤ 32) }
 {
     let most_pairs = count_of(100, named.pairs)?;
     let most_candidates = count_of(32, named.candidates)?;
@@ -118,8 +141,10 @@ fn settings_of(named: &CIceSettings<'_>) -> Option<Settings>
 
 /// What the numbers mean, if each is in its range.
 fn numbers_of(named: &CIceSettings<'_>) -> Option<CheckedIce>
+    ensures value { result ≡ checked_named named.now }
+    ensures few { MatchOption result ⊤ (λ checked. checked.settings.most_tries ≤ 32) }
 {
-    if named.reserved != 0 || named.password.is_empty() {
+    if named.reserved != 0 {
         return None;
     }
     let role = role_of(named.role)?;
@@ -129,6 +154,8 @@ fn numbers_of(named: &CIceSettings<'_>) -> Option<CheckedIce>
 
 /// The fragment of C's bytes.
 fn ufrag_of(bytes: &[u8]) -> Option<Ufrag<'_>>
+    ensures { MatchOption result (is_fragment bytes.now ≡ false)
+        (λ ufrag. (is_fragment bytes.now ≡ true) × (ufrag_text ufrag ≡ bytes.now)) }
 {
     match text_in(bytes) {
         Some(text) => Ufrag::new(text),
@@ -138,7 +165,14 @@ fn ufrag_of(bytes: &[u8]) -> Option<Ufrag<'_>>
 
 /// The credentials of C's bytes.
 fn login_of(alloc: Global, ufrag: &[u8], password: &[u8]) -> Result<AgentCredentials, CResult>
+    ensures { MatchResult result
+        (λ login. (login_answer ufrag.now password.now ≡ None) × IsLogin ufrag.now password.now login)
+        (λ answer. (login_answer ufrag.now password.now ≡ Some answer)
+        ⊎ (answer ≡ plain OUT_OF_MEMORY)) }
 {
+    if password.is_empty() {
+        return Err(plain(codes::BAD_ARGUMENT));
+    }
     let Some(ufrag) = ufrag_of(ufrag) else {
         return Err(plain(codes::INVALID_DATA));
     };
@@ -160,6 +194,18 @@ fn core_of(
     software: Option<Software>,
     tiebreaker: u64,
 ) -> Result<Box<IceCore>, AllocError>
+    requires { checked.now.settings.most_tries ≤ 32 }
+    ensures { IfOk result (λ boxed. box_value boxed ≡ record {
+      agent = record {
+        held = record {
+          setup = setup_of checked.now.settings;
+          state = begun (record { role = checked.now.role; tiebreaker = tiebreaker });
+        };
+        reports = nothing_of checked.now.settings checked.now.role;
+        logins = record { own = own; peer = None };
+        software = option_map text_bytes software;
+      };
+    }) }
 {
     let agent = Agent::new(
         alloc,
@@ -178,6 +224,13 @@ fn made_by(
     named: &CIceSettings<'_>,
     checked: &CheckedIce,
 ) -> Result<Box<IceCore>, CResult>
+    requires { checked.now.settings.most_tries ≤ 32 }
+    ensures { MatchResult result
+        (λ boxed. (login_answer named.now.ufrag.now named.now.password.now ≡ None)
+        × ((text_answer named.now.software.now ≡ None) × IsMadeBy named.now checked.now (box_value boxed)))
+        (λ answer. (option_or (login_answer named.now.ufrag.now named.now.password.now)
+        (text_answer named.now.software.now) ≡ Some answer)
+        ⊎ (answer ≡ plain OUT_OF_MEMORY)) }
 {
     let own = login_of(alloc, named.ufrag, named.password)?;
     let software = software_of(alloc, named.software)?;
@@ -194,6 +247,7 @@ pub extern "C" fn stun_types_ice_new(
     agent: &mut CIce,
     settings: &CIceSettings<'_>,
 ) -> CResult
+    ensures { MakesAgent settings.now result (held_agent agent.old) (held_agent agent.new) }
 {
     let Some(checked) = numbers_of(settings) else {
         return plain(codes::BAD_ARGUMENT);
@@ -209,6 +263,7 @@ pub extern "C" fn stun_types_ice_new(
 
 /// What setting the peer's credentials returns.
 fn peer_result(is_first: bool) -> CResult
+    ensures { result ≡ peer_result (not is_first) }
 {
     if is_first {
         plain(codes::OK)
@@ -219,12 +274,15 @@ fn peer_result(is_first: bool) -> CResult
 
 /// Sets the credentials of the peer.
 fn set_peer(core: &mut IceCore, now: u64, peer: AgentCredentials) -> CResult
+    ensures state { core.new ≡ with_agent (met now peer core.old.agent) core.old }
+    ensures result { result ≡ peer_result (is_some core.old.agent.logins.peer) }
 {
     peer_result(core.agent.set_peer(now, peer))
 }
 
 /// Sets the credentials of the peer, which C passes.
 fn meet(alloc: Global, core: &mut IceCore, now: u64, ufrag: &[u8], password: &[u8]) -> CResult
+    ensures { MeetsBy core.old now ufrag.now password.now result (Some core.old) (Some core.new) }
 {
     match login_of(alloc, ufrag, password) {
         Ok(peer) => set_peer(core, now, peer),
@@ -241,10 +299,9 @@ pub extern "C" fn stun_types_ice_set_peer(
     ufrag: &[u8],
     password: &[u8],
 ) -> CResult
+    ensures { SetsPeer now ufrag.now password.now result
+        (held_agent agent.old) (held_agent agent.new) }
 {
-    if password.is_empty() {
-        return plain(codes::BAD_ARGUMENT);
-    }
     let Some(mut core) = take(agent, alloc) else {
         return plain(codes::BAD_ARGUMENT);
     };

@@ -1,5 +1,13 @@
 //! Candidates as lines of text.
 
+ghost use Rattle.std.specs.Prelude.{◌≡◌, MatchOption, option_copied, replicate, option_and_then};
+ghost use Rattle.std.specs.Option.{option_map};
+ghost use Rattle.stun_text.specs.Slices.{laid_over};
+ghost use Rattle.ice_candidates.specs.Candidates.{ip};
+ghost use Rattle.ice_candidates.specs.Views.{fields, kind, place, protocol};
+ghost use Rattle.stun_types_c.specs.Addresses.{ip_named};
+ghost use Rattle.stun_types_c.specs.IceTexts.{HoldsCandidate, HoldsPlace, HoldsRelated, ReadsCandidate, WritesCandidate, candidate_named, foundation_named, kind_named, kind_number, related_named, transport_named, transport_number};
+
 use crate::address::{Address, in_c, socket_of};
 use crate::call_result::{CResult, counted, plain};
 use crate::codes;
@@ -33,6 +41,7 @@ pub struct CIceCandidate {
 
 /// The transport of a number.
 fn transport_of(number: u32) -> Option<Transport<'static>>
+    ensures { option_map protocol result ≡ transport_named number }
 {
     match number {
         1 => Some(Transport::Udp),
@@ -43,6 +52,7 @@ fn transport_of(number: u32) -> Option<Transport<'static>>
 
 /// The number of a transport; 0 for another one.
 fn transport_number(transport: &Transport<'_>) -> u32
+    ensures { result ≡ transport_number (protocol transport.now) }
 {
     match transport {
         Transport::Udp => 1,
@@ -53,6 +63,7 @@ fn transport_number(transport: &Transport<'_>) -> u32
 
 /// The type of a number.
 fn kind_of(number: u32) -> Option<CandidateKind<'static>>
+    ensures { option_map kind result ≡ kind_named number }
 {
     match number {
         1 => Some(CandidateKind::Host),
@@ -64,9 +75,10 @@ fn kind_of(number: u32) -> Option<CandidateKind<'static>>
 }
 
 /// The number of a type; 0 for another one.
-fn kind_number(kind: &CandidateKind<'_>) -> u32
+fn kind_number(named: &CandidateKind<'_>) -> u32
+    ensures { result ≡ kind_number (kind named.now) }
 {
-    match kind {
+    match named {
         CandidateKind::Host => 1,
         CandidateKind::ServerReflexive => 2,
         CandidateKind::PeerReflexive => 3,
@@ -76,26 +88,29 @@ fn kind_number(kind: &CandidateKind<'_>) -> u32
 }
 
 /// An address, in C's form; of a name the port alone.
-fn place_in_c(place: &Place<'_>, port: u16) -> Address
+fn place_in_c(at: &Place<'_>, port: u16) -> Address
+    ensures { HoldsPlace (place at.now) port result }
 {
-    match place {
+    match at {
         Place::Ip(ip) => in_c(SocketAddr::new(*ip, port)),
         Place::Name(_) => Address { port, ..NOWHERE },
     }
 }
 
 /// The related address, in C's form.
-fn related_in_c(place: &Option<Place<'_>>, port: Option<u16>) -> Address
+fn related_in_c(at: &Option<Place<'_>>, port: Option<u16>) -> Address
+    ensures { HoldsRelated (option_map place at.now) port result }
 {
     let port = port.unwrap_or(0);
-    match place {
-        Some(place) => place_in_c(place, port),
+    match at {
+        Some(at) => place_in_c(at, port),
         None => Address { port, ..NOWHERE },
     }
 }
 
 /// The letters of a foundation, and zeros.
 fn foundation_in_c(text: &str) -> [u8; 32]
+    ensures { result ≡ laid_over text.now (replicate 32 0) }
 {
     let mut foundation = [0; 32];
     let count = text.len().min(32);
@@ -105,6 +120,7 @@ fn foundation_in_c(text: &str) -> [u8; 32]
 
 /// A candidate, in C's form.
 fn candidate_in_c(candidate: &Candidate<'_>) -> CIceCandidate
+    ensures { HoldsCandidate (fields candidate.now) result }
 {
     CIceCandidate {
         foundation: foundation_in_c(candidate.foundation),
@@ -124,6 +140,7 @@ pub extern "C" fn stun_types_ice_candidate_read(
     line: &[u8],
     candidate: &mut CIceCandidate,
 ) -> CResult
+    ensures { ReadsCandidate line.now result candidate.old candidate.new }
 {
     let Some(line) = text_in(line) else {
         return plain(codes::INVALID_DATA);
@@ -139,6 +156,7 @@ pub extern "C" fn stun_types_ice_candidate_read(
 
 /// The foundation that C names.
 fn foundation_of(named: &CIceCandidate) -> Option<&str>
+    ensures { option_copied result ≡ foundation_named named.now }
 {
     let count = named.foundation_length as usize;
     if count > 32 {
@@ -149,6 +167,7 @@ fn foundation_of(named: &CIceCandidate) -> Option<&str>
 
 /// The IP address of an address.
 fn ip_of(address: &Address) -> Option<IpAddr>
+    ensures { result ≡ ip_named address.now }
 {
     match socket_of(address) {
         Some(address) => Some(address.ip()),
@@ -158,6 +177,7 @@ fn ip_of(address: &Address) -> Option<IpAddr>
 
 /// The related address that C names, if it names one; an error if no family has its number.
 fn related_of(address: &Address) -> Option<Option<IpAddr>>
+    ensures { result ≡ related_named address.now }
 {
     if address.family == 0 {
         return Some(None);
@@ -168,6 +188,7 @@ fn related_of(address: &Address) -> Option<Option<IpAddr>>
 
 /// A related address and its port.
 fn related_place(related: Option<IpAddr>) -> Option<Place<'static>>
+    ensures { option_map place result ≡ option_map ip related }
 {
     match related {
         Some(ip) => Some(Place::Ip(ip)),
@@ -176,6 +197,7 @@ fn related_place(related: Option<IpAddr>) -> Option<Place<'static>>
 }
 
 fn related_port(related: Option<IpAddr>, port: u16) -> Option<u16>
+    ensures { result ≡ option_map (λ a. port) related }
 {
     match related {
         Some(_) => Some(port),
@@ -185,6 +207,7 @@ fn related_port(related: Option<IpAddr>, port: u16) -> Option<u16>
 
 /// The candidate that C names, if its fields are in their ranges.
 fn candidate_of(named: &CIceCandidate) -> Option<Candidate<'_>>
+    ensures { option_map fields result ≡ candidate_named named.now }
 {
     let foundation = foundation_of(named)?;
     let transport = transport_of(named.transport)?;
@@ -217,6 +240,7 @@ pub extern "C" fn stun_types_ice_candidate_write(
     text: &mut [u8],
     written: &mut usize,
 ) -> CResult
+    ensures { WritesCandidate candidate.now result text.old text.new written.old written.new }
 {
     let Some(candidate) = candidate_of(candidate) else {
         return plain(codes::BAD_ARGUMENT);
