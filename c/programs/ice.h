@@ -41,6 +41,11 @@ static inline bool is_fine(stun_types_answer answer) {
     return answer.code == STUN_TYPES_OK;
 }
 
+/* What the call refuses has no effect. */
+static inline void ignore(stun_types_answer answer) {
+    (void)answer;
+}
+
 static inline bool is_same(const stun_types_address *address, const stun_types_address *other) {
     return memcmp(address, other, sizeof *address) == 0;
 }

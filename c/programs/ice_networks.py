@@ -36,8 +36,9 @@ KINDS = {
 }
 LOSS = """
 table inet loss {
-    chain forward { type filter hook forward priority 0; meta l4proto udp numgen random mod 100 < PERCENT counter drop; }
-    chain input { type filter hook input priority 0; iifname != "lo" meta l4proto udp numgen random mod 100 < PERCENT counter drop; }
+    chain lose { meta l4proto udp numgen random mod 100 < PERCENT counter drop; }
+    chain forward { type filter hook forward priority 0; jump lose; }
+    chain input { type filter hook input priority 0; iifname != "lo" jump lose; }
 }
 """
 
@@ -101,7 +102,8 @@ class Networks:
 def join(one, name, address, other, other_name, other_address):
     """A cable between two hosts."""
     one.ip(f"link add {name} type veth peer name {other_name} netns {other.path}")
-    for host, device, own, near in ((one, name, address, "fe80::1/64"), (other, other_name, other_address, "fe80::2/64")):
+    ends = [(one, name, address, "fe80::1/64"), (other, other_name, other_address, "fe80::2/64")]
+    for host, device, own, near in ends:
         host.ip(f"link set {device} addrgenmode none")  # (a link-local address would be tentative at first)
         host.address(device, own, near)
 

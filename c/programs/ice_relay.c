@@ -244,8 +244,8 @@ void close_relay(void) {
             turn_relay();
             if (state == ASKING && receive_until(sooner(end, relay_wake())) == RECEIVED) {
                 stun_types_allocation_data shown;
-                (void)!is_fine(stun_types_allocation_datagram(&client, now * MILLISECOND, &attempt.server,
-                                                              response.bytes, response.length, &shown));
+                ignore(stun_types_allocation_datagram(&client, now * MILLISECOND, &attempt.server, response.bytes,
+                                                      response.length, &shown));
             }
             now = milliseconds();
         }

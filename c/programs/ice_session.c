@@ -72,12 +72,12 @@ static void pass_base(size_t number) {
     base.component = COMPONENT;
     base.family = bases[number].address.family;
     base.link_local = bases[number].link_local;
-    (void)!is_fine(stun_types_ice_add_base(&current->agent, now * MILLISECOND, &base));
+    ignore(stun_types_ice_add_base(&current->agent, now * MILLISECOND, &base));
 }
 
 /* The agent doesn't report this address as one that it has discovered. */
 static void pass_address(const stun_types_address *address) {
-    (void)!is_fine(stun_types_ice_add_address(&current->agent, address));
+    ignore(stun_types_ice_add_address(&current->agent, address));
 }
 
 void add_address(const stun_types_address *address) {
@@ -338,7 +338,9 @@ static int explain(void) {
     if (!of->has_peer) return fail(STATUS_SILENT, "the peer has described nothing");
     if (of->remotes == 0) return fail(STATUS_SILENT, "no candidate of the peer can be used; it has %zu", of->skipped);
     if (pairs == 0) return fail(STATUS_SILENT, "no candidate of the peer has an address family of this side's");
-    if (answered > 0) return fail(STATUS_SILENT, "%u of %u pairs answered, and none was nominated", answered, (unsigned)pairs);
+    if (answered > 0) {
+        return fail(STATUS_SILENT, "%u of %u pairs answered, and none was nominated", answered, (unsigned)pairs);
+    }
     return fail(STATUS_SILENT, "no pair answered: %u tried, each by up to %u requests", tried, most);
 }
 

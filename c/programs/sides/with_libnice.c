@@ -46,9 +46,11 @@ int main(int count, char **words) {
     GMainLoop *loop = g_main_loop_new(NULL, FALSE);
     GMainContext *context = g_main_loop_get_context(loop);
     NiceAgentOption options = count > 2 && strcmp(words[2], "regular") == 0 ? NICE_AGENT_OPTION_REGULAR_NOMINATION : 0;
-    NiceAgent *agent = nice_agent_new_full(context, NICE_COMPATIBILITY_RFC5245, options | NICE_AGENT_OPTION_CONSENT_FRESHNESS);
+    options |= NICE_AGENT_OPTION_CONSENT_FRESHNESS;
+    NiceAgent *agent = nice_agent_new_full(context, NICE_COMPATIBILITY_RFC5245, options);
     side own = {.agent = agent};
-    g_object_set(agent, "controlling-mode", strcmp(words[1], "controlling") == 0, "upnp", FALSE, "ice-tcp", FALSE, NULL);
+    gboolean controls = strcmp(words[1], "controlling") == 0;
+    g_object_set(agent, "controlling-mode", controls, "upnp", FALSE, "ice-tcp", FALSE, NULL);
     g_signal_connect(agent, "candidate-gathering-done", G_CALLBACK(gathered), &own);
     g_signal_connect(agent, "component-state-changed", G_CALLBACK(changed), &own);
     own.stream = nice_agent_add_stream(agent, 1);
