@@ -3,7 +3,7 @@ pub mod EndedLemmas
 pub mod ProofLemmas
 pub mod ShortTermLemmas
 mod ListsLemmas
-mod LongTermLemmas
+pub mod LongTermLemmas
 pub mod TakenLemmas
 mod ChallengeLemmas
 mod RetriedLemmas

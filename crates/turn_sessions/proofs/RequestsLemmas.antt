@@ -1,0 +1,273 @@
+-- A request is judged as it was written.
+use Rattle.std.proofs.Common.{◌≡◌, ℕ, ◌%◌, ◌^◌, ◌<◌, ◌≤◌, Bool, true, false, eqb, List, [], ◌∷◌, ◌++◌, length, map, Option, None, Some, refl, sym, ap, subst, ◌∙◌, lit<, arith}
+use Rattle.std.specs.Prelude.{◌==◌, is_some, IfSome, if◌then◌else◌}
+use Rattle.std.specs.List.{AllByRecursion, list_all, list_any}
+use Rattle.std.specs.Option.{option_to_list}
+use Rattle.std.proofs.lemmas.Bool.{and_parts, ne_eqb, or_from}
+use Rattle.std.proofs.lemmas.List.Folds.{list_any-append}
+use Rattle.stun_grammar.specs.declared.attribute_type.AttributeType.{AttributeType}
+use Rattle.stun_grammar.specs.declared.integrity_algorithm.IntegrityAlgorithm.{IntegrityAlgorithm}
+use Rattle.stun_grammar.specs.declared.integrity_algorithm.IntegrityAlgorithm.TheVariants.{Sha1, Sha256}
+use Rattle.stun_grammar.specs.Attributes.{Attribute, types}
+use Rattle.stun_grammar.specs.Names.{BINDING}
+use Rattle.stun_grammar.specs.ScannedOrder.{has}
+use Rattle.stun_grammar.specs.Writing.{message_encoding}
+use Rattle.stun_base.specs.declared.message_class.MessageClass.{MessageClass}
+use Rattle.stun_base.specs.declared.message_class.MessageClass.TheVariants.{Request as RequestClass}
+use Rattle.stun_base.specs.declared.transport.AddressFamily.{AddressFamily}
+use Rattle.stun_base.specs.MessageTypes.{class_of, method_of}
+use Rattle.stun_values.specs.declared.algorithm.PasswordAlgorithmValue.{PasswordAlgorithmValue}
+use Rattle.stun_authentication.specs.declared.policy.Policy.{Policy}
+use Rattle.stun_authentication.specs.Answers.{Decision, accept}
+use Rattle.stun_authentication.specs.Asking.{Asked as Challenged}
+use Rattle.stun_authentication.specs.Challenges.{retry_with, signing_algorithm}
+use Rattle.stun_authentication.specs.Identities.{Who, named, hashed}
+use Rattle.stun_authentication.specs.LongTerm.{long_term}
+use Rattle.stun_authentication.specs.Lookups.{Known, UserKey}
+use Rattle.stun_authentication.specs.Requests.{User, answering_attributes, asked_identity, credentials, retried_attributes, retried_request, user_key}
+use Rattle.stun_types.specs.Replies.{unknown_types}
+use Rattle.stun_exchanges.specs.Offers.{IsOffered, IsShort, Takes}
+use Rattle.stun_exchanges.specs.Premises.{HasRoom, IsOwn, Serves, Works, is_reserved}
+use Rattle.stun_exchanges.proofs.LoginsWritableLemmas.{IsAdded, any-append, room_down}
+use Rattle.stun_exchanges.proofs.LongTermLemmas.{parts, retried_writable}
+use Rattle.turn_client_machine.specs.declared.requests.Kind.{Kind}
+use Rattle.turn_client_machine.specs.declared.requests.Kind.TheVariants.{Allocate, Refresh, Delete, Permit, Bind}
+use Rattle.turn_client_machine.specs.declared.requests.Request.{Request}
+use Rattle.turn_client_messages.specs.Requests.{asked as asked_attributes, attributes_of, id_of, text_of, type_for}
+use Rattle.turn_client_messages.specs.Views.{Asked, Content}
+use Rattle.turn_attrs.specs.Turn.{XOR_PEER_ADDRESS}
+use Rattle.turn_requests.specs.Requests.{Credentials, allocate_attributes, ended, lifetime_attribute, software_attributes}
+use Rattle.turn_server.specs.Accounts.{account_of}
+use Rattle.turn_server.specs.Comprehended.{comprehended}
+use Rattle.turn_server.specs.Judging.{Site, Judged, asked, binding, by_class, decided_as, dropped, judge, unknown}
+use Rattle.turn_server.specs.Requests.{asks_table, request_of}
+use Rattle.turn_server.specs.Wanted.{Wanted, other}
+use Rattle.turn_sessions.specs.Requests.{wanted_as, wanted_by}
+use Rattle.turn_sessions.specs.Sides.{Admits, Fits, IsInFields, IsLogin, IsNamed}
+use Rattle.turn_sessions.proofs.AddressesLemmas.{AreOfEndpoints, transport_added}
+use Rattle.turn_sessions.proofs.AskingLemmas.{IsFoundIn, allocate_read, bind_read, found_in, peers_in, permit_read, refresh_read}
+use Rattle.turn_sessions.proofs.JudgingLemmas.{judge_is}
+use Rattle.turn_sessions.proofs.ShownLemmas.{IsEnded, IsRead, ended_after, ended_signed, ending_types, is_other, none_unknown, read_message, writable}
+
+-- what the law of logins says
+abbrev pub Accepts : Type 0
+Accepts = (policy : Policy) (nonces : List ℕ → Known) (keys : Who → List ℕ → PasswordAlgorithmValue → Option UserKey) (asked : Challenged) (algorithms supported : List PasswordAlgorithmValue)
+    (algorithm : PasswordAlgorithmValue) (user : User) (key : UserKey) (fingerprint : Bool) (kind id : ℕ) (before : List Attribute)
+    → (let retry = retry_with asked algorithm in
+    IsOffered nonces asked algorithms → Takes supported asked algorithm → IsShort asked user.name → class_of kind ≡ RequestClass → IsOwn kind id before
+    → HasRoom kind id (retried_attributes fingerprint retry user kind id before) → keys (asked_identity asked user.name) asked.realm algorithm ≡ Some key
+    → Works (user_key retry user) (signing_algorithm retry) key → Serves policy (signing_algorithm retry) fingerprint
+    → long_term policy asked.realm nonces keys (retried_request fingerprint retry user kind id before) ≡ accept (asked_identity asked user.name) key (signing_algorithm retry) (signing_algorithm retry))
+
+-- ---- What follows the client's attributes
+
+others : (c : ℕ) (ts : List ℕ) → list_all is_reserved ts ≡ true → is_reserved c ≡ false → has c ts ≡ false
+others c [] all plain = refl
+others c (t ∷ ts) all plain =
+    let both = and_parts (is_reserved t) (list_all is_reserved ts) all in
+    or_from (eqb t c) (has c ts) (ne_eqb t c (λ e. absurd (cc (both.0, plain, ap is_reserved e)))) (others c ts both.1 plain)
+
+parts_reserved : (who : Who) (realm nonce : List ℕ) (list : Option (List ℕ)) (a : PasswordAlgorithmValue) → list_all is_reserved (types (parts who realm nonce list a)) ≡ true
+parts_reserved (named name) realm nonce None a = refl
+parts_reserved (named name) realm nonce (Some list) a = refl
+parts_reserved (hashed hash) realm nonce None a = refl
+parts_reserved (hashed hash) realm nonce (Some list) a = refl
+
+ends_reserved : (a : IntegrityAlgorithm) (fingerprint : Bool) → list_all is_reserved (ending_types a fingerprint) ≡ true
+ends_reserved Sha1 true = refl
+ends_reserved Sha1 false = refl
+ends_reserved Sha256 true = refl
+ends_reserved Sha256 false = refl
+
+parts_known : (sets_df : Bool) (who : Who) (realm nonce : List ℕ) (list : Option (List ℕ)) (a : PasswordAlgorithmValue) → list_any (is_other (comprehended sets_df)) (types (parts who realm nonce list a)) ≡ false
+parts_known true (named name) realm nonce None a = refl
+parts_known true (named name) realm nonce (Some list) a = refl
+parts_known true (hashed hash) realm nonce None a = refl
+parts_known true (hashed hash) realm nonce (Some list) a = refl
+parts_known false (named name) realm nonce None a = refl
+parts_known false (named name) realm nonce (Some list) a = refl
+parts_known false (hashed hash) realm nonce None a = refl
+parts_known false (hashed hash) realm nonce (Some list) a = refl
+
+ends_known : (sets_df : Bool) (a : IntegrityAlgorithm) (fingerprint : Bool) → list_any (is_other (comprehended sets_df)) (ending_types a fingerprint) ≡ false
+ends_known true Sha1 true = refl
+ends_known true Sha1 false = refl
+ends_known true Sha256 true = refl
+ends_known true Sha256 false = refl
+ends_known false Sha1 true = refl
+ends_known false Sha1 false = refl
+ends_known false Sha256 true = refl
+ends_known false Sha256 false = refl
+
+any_both : (p : ℕ → Bool) (xs ys : List ℕ) → list_any p xs ≡ false → list_any p ys ≡ false → list_any p (xs ++ ys) ≡ false
+any_both p xs ys one two = list_any-append p xs ys ∙ or_from (list_any p xs) (list_any p ys) one two
+
+-- ---- The client's attributes
+
+allocate_own : (lifetime : Option ℕ) (family : Option AddressFamily) → list_any is_reserved (types (allocate_attributes lifetime family)) ≡ false
+allocate_own None None = refl
+allocate_own None (Some f) = refl
+allocate_own (Some n) None = refl
+allocate_own (Some n) (Some f) = refl
+
+allocate_known : (sets_df : Bool) (lifetime : Option ℕ) (family : Option AddressFamily) → list_any (is_other (comprehended sets_df)) (types (allocate_attributes lifetime family)) ≡ false
+allocate_known true None None = refl
+allocate_known true None (Some f) = refl
+allocate_known true (Some n) None = refl
+allocate_known true (Some n) (Some f) = refl
+allocate_known false None None = refl
+allocate_known false None (Some f) = refl
+allocate_known false (Some n) None = refl
+allocate_known false (Some n) (Some f) = refl
+
+allocate_added : (lifetime : Option ℕ) (family : Option AddressFamily) → AllByRecursion IsAdded (allocate_attributes lifetime family)
+allocate_added None None = (record { written = refl; type_fits = lit< tt; value_fits = lit< tt; plain = refl }, tt)
+allocate_added None (Some f) = (record { written = refl; type_fits = lit< tt; value_fits = lit< tt; plain = refl }, (record { written = refl; type_fits = lit< tt; value_fits = lit< tt; plain = refl }, tt))
+allocate_added (Some n) None = (record { written = refl; type_fits = lit< tt; value_fits = lit< tt; plain = refl }, (record { written = refl; type_fits = lit< tt; value_fits = lit< tt; plain = refl }, tt))
+allocate_added (Some n) (Some f) = (
+  record { written = refl; type_fits = lit< tt; value_fits = lit< tt; plain = refl },
+  (record { written = refl; type_fits = lit< tt; value_fits = lit< tt; plain = refl }, (record { written = refl; type_fits = lit< tt; value_fits = lit< tt; plain = refl }, tt)),
+)
+
+refresh_own : (lifetime : Option ℕ) → list_any is_reserved (types (map lifetime_attribute (option_to_list lifetime))) ≡ false
+refresh_own None = refl
+refresh_own (Some n) = refl
+
+refresh_known : (sets_df : Bool) (lifetime : Option ℕ) → list_any (is_other (comprehended sets_df)) (types (map lifetime_attribute (option_to_list lifetime))) ≡ false
+refresh_known true None = refl
+refresh_known true (Some n) = refl
+refresh_known false None = refl
+refresh_known false (Some n) = refl
+
+refresh_added : (lifetime : Option ℕ) → AllByRecursion IsAdded (map lifetime_attribute (option_to_list lifetime))
+refresh_added None = tt
+refresh_added (Some n) = (record { written = refl; type_fits = lit< tt; value_fits = lit< tt; plain = refl }, tt)
+
+asked_own : (content : Content) (id : ℕ) (k : Kind) → list_any is_reserved (types (asked_attributes content id k)) ≡ false
+asked_own content id Allocate = allocate_own content.lifetime content.family
+asked_own content id Refresh = refresh_own content.lifetime
+asked_own content id Delete = refl
+asked_own content id (Permit peer) = refl
+asked_own content id (Bind channel peer) = refl
+
+asked_known : (sets_df : Bool) (content : Content) (id : ℕ) (k : Kind) → list_any (is_other (comprehended sets_df)) (types (asked_attributes content id k)) ≡ false
+asked_known sets_df content id Allocate = allocate_known sets_df content.lifetime content.family
+asked_known sets_df content id Refresh = refresh_known sets_df content.lifetime
+asked_known true content id Delete = refl
+asked_known true content id (Permit peer) = refl
+asked_known true content id (Bind channel peer) = refl
+asked_known false content id Delete = refl
+asked_known false content id (Permit peer) = refl
+asked_known false content id (Bind channel peer) = refl
+
+asked_added : (content : Content) (id : ℕ) (k : Kind) → IsNamed k → AllByRecursion IsAdded (asked_attributes content id k)
+asked_added content id Allocate is = allocate_added content.lifetime content.family
+asked_added content id Refresh is = refresh_added content.lifetime
+asked_added content id Delete is = refresh_added (Some 0)
+asked_added content id (Permit peer) is = (transport_added XOR_PEER_ADDRESS id peer is (lit< tt) refl, tt)
+asked_added content id (Bind channel peer) is =
+    (record { written = refl; type_fits = lit< tt; value_fits = lit< tt; plain = refl }, (transport_added XOR_PEER_ADDRESS id peer is.1 (lit< tt) refl, tt))
+
+software_own : (software : Option (List ℕ)) → list_any is_reserved (types (software_attributes software)) ≡ false
+software_own None = refl
+software_own (Some name) = refl
+
+software_known : (sets_df : Bool) (software : Option (List ℕ)) → list_any (is_other (comprehended sets_df)) (types (software_attributes software)) ≡ false
+software_known true None = refl
+software_known true (Some name) = refl
+software_known false None = refl
+software_known false (Some name) = refl
+
+software_added : (software : Option (List ℕ)) (ys : List Attribute) → IfSome software (λ name. length name ≤ 763) → AllByRecursion IsAdded ys → AllByRecursion IsAdded (software_attributes software ++ ys)
+software_added None ys few all = all
+software_added (Some name) ys few all = (record { written = refl; type_fits = lit< tt; value_fits = omega (arith, few); plain = refl }, all)
+
+-- ---- What they ask for
+
+record HasMethod (k : Kind) : Type 0 where
+  small : type_for k < 2 ^ 14
+  class_is : class_of (type_for k) ≡ RequestClass
+  no_binding : (method_of (type_for k) == BINDING) ≡ false
+  asks : asks_table (method_of (type_for k)) ≡ true
+
+method_is : (k : Kind) → HasMethod k
+method_is Allocate = record { small = lit< tt; class_is = refl; no_binding = refl; asks = refl }
+method_is Refresh = record { small = lit< tt; class_is = refl; no_binding = refl; asks = refl }
+method_is Delete = record { small = lit< tt; class_is = refl; no_binding = refl; asks = refl }
+method_is (Permit peer) = record { small = lit< tt; class_is = refl; no_binding = refl; asks = refl }
+method_is (Bind channel peer) = record { small = lit< tt; class_is = refl; no_binding = refl; asks = refl }
+
+wanted_is : AreOfEndpoints → (site : Site) (content : Content) (id : ℕ) (k : Kind) (ends d : List ℕ) → IsInFields content → IsNamed k
+    → IsRead (type_for k) id (software_attributes content.software ++ asked_attributes content id k) ends d → ((type : ℕ) → is_reserved type ≡ false → has type ends ≡ false)
+    → request_of site.client site.sockets (method_of (type_for k)) d ≡ wanted_as site content id k
+wanted_is sockets site content id Allocate ends d fields is r plain =
+    allocate_read site.client site.sockets id content.lifetime content.family d (found_in content.software (type_for Allocate) id _ ends d r plain) r.id_is fields.lifetime
+wanted_is sockets site content id Refresh ends d fields is r plain =
+    ap (λ (q : _). other q) (refresh_read content.lifetime d (found_in content.software (type_for Refresh) id _ ends d r plain) fields.lifetime)
+wanted_is sockets site content id Delete ends d fields is r plain =
+    ap (λ (q : _). other q) (refresh_read (Some 0) d (found_in content.software (type_for Delete) id _ ends d r plain) (lit< tt))
+wanted_is sockets site content id (Permit peer) ends d fields is r plain =
+    ap (λ (q : _). other q) (permit_read sockets id peer d is (peers_in content.software (type_for (Permit peer)) id _ ends d r plain) r.id_is)
+wanted_is sockets site content id (Bind channel peer) ends d fields is r plain =
+    ap (λ (q : _). other q) (bind_read sockets id channel peer d (omega (arith, is.0.most)) is.1 (found_in content.software (type_for (Bind channel peer)) id _ ends d r plain) r.id_is)
+
+-- ---- It is judged
+
+request_read : AreOfEndpoints → Accepts → (last_channel : ℕ) (sets_df : Bool) (site : Site) (content : Content) (request : Request) (login : Credentials) (user : User) (key : UserKey)
+    → Admits site login user key content.fingerprint → IsInFields content → IsNamed request.kind
+    → Fits (retried_request content.fingerprint login.retry user (type_for request.kind) (id_of request) (attributes_of content request))
+    → judge last_channel sets_df site (retried_request content.fingerprint login.retry user (type_for request.kind) (id_of request) (attributes_of content request))
+    ≡ asked (account_of site.realm (asked_identity login.retry.asked user.name)) (wanted_by site content request) key (signing_algorithm login.retry)
+request_read sockets accepts last_channel sets_df site content request login user key admits fields is room =
+    let k = request.kind in
+    let kind = type_for k in
+    let id = id_of request in
+    let m = method_of kind in
+    let fingerprint = content.fingerprint in
+    let retry = login.retry in
+    let a = signing_algorithm retry in
+    let who = asked_identity retry.asked user.name in
+    let own_ones = asked_attributes content id k in
+    let before = attributes_of content request in
+    let credits = credentials retry user.name in
+    let all = retried_attributes fingerprint retry user kind id before in
+    let d = message_encoding kind id all in
+    let ends = types credits ++ ending_types a fingerprint in
+    let has_method = method_is k in
+    let e : IsEnded before all ends = ended_after before credits all (ending_types a fingerprint) (ended_signed fingerprint kind id (before ++ credits) a (user_key retry user)) in
+    let own : IsOwn kind id before = record {
+      writable = writable kind id before has_method.small (omega arith) (software_added content.software own_ones fields.software (asked_added content id k is)) (room_down kind id before e.more (subst (HasRoom kind id) e.whole room));
+      own = any-append is_reserved (software_attributes content.software) own_ones (software_own content.software) (asked_own content id k);
+    } in
+    let r : IsRead kind id before ends d = read_message kind id before all ends e (retried_writable retry.asked retry.algorithm user fingerprint kind id before admits.short own room) in
+    let plain : (type : ℕ) → is_reserved type ≡ false → has type ends ≡ false =
+    λ type clear. any_both (λ t. eqb t type) (types credits) (ending_types a fingerprint)
+    (others type (types credits) (parts_reserved who retry.asked.realm retry.asked.nonce retry.asked.list retry.algorithm) clear) (others type (ending_types a fingerprint) (ends_reserved a fingerprint) clear) in
+    let none : unknown_types (comprehended sets_df) d ≡ [] =
+    none_unknown (comprehended sets_df) kind id before ends d r
+    (any-append (is_other (comprehended sets_df)) (software_attributes content.software) own_ones (software_known sets_df content.software) (asked_known sets_df content id k))
+    (any_both (is_other (comprehended sets_df)) (types credits) (ending_types a fingerprint) (parts_known sets_df who retry.asked.realm retry.asked.nonce retry.asked.list retry.algorithm) (ends_known sets_df a fingerprint)) in
+    let accepted : long_term site.policy site.realm site.nonces site.keys d ≡ accept who key a a =
+    ap (λ (realm : List ℕ). long_term site.policy realm site.nonces site.keys d) (sym admits.realm_is)
+    ∙ accepts site.policy site.nonces site.keys retry.asked admits.algorithms admits.supported retry.algorithm user key fingerprint kind id before admits.offered admits.takes admits.short has_method.class_is own room admits.known admits.works admits.serves in
+    judge_is last_channel sets_df site d r.parses
+    ∙ (λ i. if is_some (r.parses i) then dropped else by_class sets_df site (class_of (r.type_is i)) (method_of (r.type_is i)) d)
+    ∙ ap (λ (c : MessageClass). by_class sets_df site c m d) has_method.class_is
+    ∙ (λ i. if has_method.no_binding i then binding else (if has_method.asks i then decided_as sets_df site m d (long_term site.policy site.realm site.nonces site.keys d) else dropped))
+    ∙ ap (λ (decision : Decision). decided_as sets_df site m d decision) accepted
+    ∙ ap (λ (ts : List AttributeType). if length ts == 0 then asked (account_of site.realm who) (request_of site.client site.sockets m d) key a else unknown key a) none
+    ∙ ap (λ (w : Wanted). asked (account_of site.realm who) w key a) (wanted_is sockets site content id k ends d fields is r plain)
+
+pub requests_read : AreOfEndpoints → Accepts → (last_channel : ℕ) (sets_df : Bool) (site : Site) (content : Content) (r : Asked) (login : Credentials) (user : User) (key : UserKey)
+    → r.login ≡ Some login → IsLogin login user → Admits site login user key content.fingerprint → IsInFields content → IsNamed r.request.kind → Fits (text_of content r)
+    → judge last_channel sets_df site (text_of content r)
+    ≡ asked (account_of site.realm (asked_identity login.retry.asked user.name)) (wanted_by site content r.request) key (signing_algorithm login.retry)
+requests_read sockets accepts last_channel sets_df site content r login user key has_login is admits fields names room =
+    let kind = type_for r.request.kind in
+    let id = id_of r.request in
+    let before = attributes_of content r.request in
+    let text : text_of content r ≡ retried_request content.fingerprint login.retry user kind id before =
+    (λ i. message_encoding kind id (ended (has_login i) content.fingerprint kind id before))
+    ∙ (λ i. message_encoding kind id (answering_attributes content.fingerprint login.retry (is.name_is i) (is.key_is i) kind id before)) in
+    ap (judge last_channel sets_df site) text
+    ∙ request_read sockets accepts last_channel sets_df site content r.request login user key admits fields names (subst Fits text room)

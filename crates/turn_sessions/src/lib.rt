@@ -1,0 +1,7 @@
+//! What holds of a TURN client and a TURN server in the bytes that pass between them (RFC 8656): each reads what the
+//! other writes as what it says.
+#![tactic(auto)]
+
+mod laws;
+
+pub use laws::{data_is_read, requests_are_read};
