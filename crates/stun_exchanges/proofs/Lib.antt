@@ -5,7 +5,7 @@ pub mod ShortTermLemmas
 mod ListsLemmas
 pub mod LongTermLemmas
 pub mod TakenLemmas
-mod ChallengeLemmas
+pub mod ChallengeLemmas
 mod RetriedLemmas
 mod ExampleLemmas
 mod WritableLemmas

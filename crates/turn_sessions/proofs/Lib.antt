@@ -5,3 +5,5 @@ mod ChannelsLemmas
 mod DataLemmas
 mod AskingLemmas
 mod RequestsLemmas
+mod AnswersLemmas
+mod ErrorsLemmas

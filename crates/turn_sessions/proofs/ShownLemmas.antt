@@ -108,7 +108,7 @@ first_placed type n (x ∷ xs) =
     one_more (x.type == type) (record { offset = n; type = x.type; value = x.value }) (filter (λ (a : Shown). a.type == type) (placed m xs)) (first_value type xs) (first_placed type m xs)
 
 -- a type that isn't there has no value
-no_value : (type : ℕ) (xs : List Attribute) → has type (types xs) ≡ false → first_value type xs ≡ None
+pub no_value : (type : ℕ) (xs : List Attribute) → has type (types xs) ≡ false → first_value type xs ≡ None
 no_value type [] e = refl
 no_value type (x ∷ xs) e =
     let both = or_parts (x.type == type) (has type (types xs)) e in

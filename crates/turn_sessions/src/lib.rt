@@ -4,4 +4,4 @@
 
 mod laws;
 
-pub use laws::{data_is_read, requests_are_read};
+pub use laws::{data_is_read, requests_are_read, responses_are_judged};
