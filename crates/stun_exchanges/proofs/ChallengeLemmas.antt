@@ -45,7 +45,7 @@ use Rattle.stun_authentication.proofs.TypesLemmas.{free}
 
 -- ---- The code
 
-pub small : List ℕ → Bool
+unfoldable pub small : List ℕ → Bool
 small [] = true
 small (b ∷ bs) = ltb b 128 && small bs
 

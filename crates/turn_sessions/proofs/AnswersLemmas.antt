@@ -149,7 +149,7 @@ fit first missing print id xs a key r login id_is small f has_login works =
 
 -- ---- What each of them says
 
-software_few : (software : Option (List ℕ)) → IfSome software (λ name. length name ≤ 763) → AreFew (software_attributes software)
+pub software_few : (software : Option (List ℕ)) → IfSome software (λ name. length name ≤ 763) → AreFew (software_attributes software)
 software_few None short = record { added = tt; ordinary = refl; no_nonce = refl; known = refl; few = lit≤ tt }
 software_few (Some name) short = record {
   added = (record { written = refl; type_fits = lit< tt; value_fits = omega (arith, short); plain = refl }, tt);
@@ -159,7 +159,7 @@ software_few (Some name) short = record {
   few = omega (arith, short, one_size SOFTWARE name [] (lit< tt) (omega (arith, short)));
 }
 
-software_size : (software : Option (List ℕ)) → IfSome software (λ name. length name ≤ 763) → length (encodings (software_attributes software)) ≤ 768
+pub software_size : (software : Option (List ℕ)) → IfSome software (λ name. length name ≤ 763) → length (encodings (software_attributes software)) ≤ 768
 software_size None short = lit≤ tt
 software_size (Some name) short = omega (arith, short, one_size SOFTWARE name [] (lit< tt) (omega (arith, short)))
 

@@ -1,6 +1,6 @@
 -- What a server reads of the attributes of each request (RFC 8656, sections 7.2, 8.2, 10.2 and 12.2).
 use Rattle.std.proofs.Common.{◌≡◌, ℕ, ◌+◌, ◌*◌, ◌/◌, ◌%◌, ◌^◌, ◌<◌, Bool, true, false, List, [], ◌∷◌, ◌++◌, length, map, take, Option, None, Some, refl, ap, ◌∙◌, arith}
-use Rattle.std.specs.Prelude.{◌||◌, ◌&&◌, ◌==◌, nat_le, not, is_some, IfSome, slice_index, option_and_then, if◌then◌else◌}
+use Rattle.std.specs.Prelude.{◌||◌, ◌&&◌, ◌==◌, nat_le, not, is_some, unwrap_or, IfSome, slice_index, option_and_then, if◌then◌else◌}
 use Rattle.std.specs.List.{list_all, list_any}
 use Rattle.std.specs.Option.{option_map, option_map_or, option_or, option_to_list}
 use Rattle.stun_grammar.specs.Attributes.{Attribute, canonical, types}
@@ -22,12 +22,12 @@ use Rattle.turn_attrs.specs.Turn.{ADDITIONAL_ADDRESS_FAMILY, CHANNEL_NUMBER, EVE
 use Rattle.turn_machine.specs.Events.{Request, bind, permit, permit_request, refresh, unfit, unfit_allocate}
 use Rattle.turn_peers.specs.Tunnels.{is_tunnelled}
 use Rattle.turn_requests.specs.Requests.{allocate_attributes, channel_attribute, lifetime_attribute, named_peer, software_attributes}
-use Rattle.turn_server.specs.declared.allocate.Options.{Options}
 use Rattle.turn_server.specs.declared.sockets.Sockets.{Sockets}
 use Rattle.turn_server.specs.Addresses.{is_address, peer_in, peer_of, peer_read}
-use Rattle.turn_server.specs.Allocating.{UDP, allocate_of, bytes_fault, options_fault, options_of, transport_fault, wanted_for, wants_for}
+use Rattle.turn_server.specs.Allocating.{UDP, allocate_of, bytes_fault, options_fault, options_of, transport_fault, wanted_for}
 use Rattle.turn_server.specs.Requests.{bind_of, channel_in, permit_of, refresh_of}
 use Rattle.turn_server.specs.Wanted.{Wanted, opening, other}
+use Rattle.turn_sessions.specs.Requests.{wants_of}
 use Rattle.turn_sessions.specs.Sides.{IsTransport}
 use Rattle.turn_sessions.proofs.AddressesLemmas.{AreOfEndpoints, transport_fits, transport_in, transport_read}
 use Rattle.turn_sessions.proofs.ShownLemmas.{IsRead, first_value, shown_values, value_is, values, values_are}
@@ -103,10 +103,7 @@ wishes None (Some f) = record { lifetime_is = refl; family_is = refl; transport_
 wishes (Some n) None = record { lifetime_is = refl; family_is = refl; transport_is = refl; even = refl; token = refl; additional = refl }
 wishes (Some n) (Some f) = record { lifetime_is = refl; family_is = refl; transport_is = refl; even = refl; token = refl; additional = refl }
 
-abbrev wished : Option ℕ → Option AddressFamily → Options
-wished lifetime family = record { lifetime = lifetime; family = option_map family_byte family; even = None; token = None; additional = None }
-
-go_together : (lifetime : Option ℕ) (family : Option AddressFamily) → options_fault (wished lifetime family) ≡ None
+go_together : (lifetime : Option ℕ) (family : Option AddressFamily) → options_fault (record { lifetime = lifetime; family = option_map family_byte family; even = None; token = None; additional = None }) ≡ None
 go_together lifetime None = refl
 go_together lifetime (Some IPV4) = refl
 go_together lifetime (Some IPV6) = refl
@@ -119,7 +116,7 @@ by_tunnel false (Some code) w e = absurd cc
 
 pub allocate_read : (client : Ip) (sockets : Sockets) (id : ℕ) (lifetime : Option ℕ) (family : Option AddressFamily) (d : List ℕ) → IsFoundIn (allocate_attributes lifetime family) d → id_field d ≡ id
     → IfSome lifetime (λ seconds. seconds < 2 ^ 32)
-    → allocate_of client sockets d ≡ (if is_tunnelled client then other (unfit_allocate 403) else opening id lifetime (wants_for sockets (wished lifetime family)))
+    → allocate_of client sockets d ≡ (if is_tunnelled client then other (unfit_allocate 403) else opening id lifetime (wants_of sockets (unwrap_or (option_map family_byte family) 1)))
 allocate_read client sockets id lifetime family d find id_is few =
     let w = wishes lifetime family in
     let l : value_of d LIFETIME ≡ option_map be32 lifetime = find LIFETIME refl refl ∙ w.lifetime_is in
@@ -131,19 +128,26 @@ allocate_read client sockets id lifetime family d find id_is few =
     let udp : transport_fault d ≡ None = ap (λ (o : Option (List ℕ)). if bad 4 o then Some 400 else option_map_or (λ (p : ℕ). if p == UDP then None else Some 442) (option_map first_byte o) (Some 400)) t in
     let lifetime_whole : bad 4 (value_of d LIFETIME) ≡ false = ap (bad 4) l ∙ seconds_whole lifetime in
     let other_whole : bad 4 (value_of d REQUESTED_ADDRESS_FAMILY) ≡ false = ap (bad 4) f ∙ family_whole family in
-    let options : options_of d ≡ wished lifetime family =
-    λ i. record {
-      lifetime = (ap (option_map number) l ∙ seconds_back lifetime few) i;
-      family = (ap (option_map first_byte) f ∙ family_back family) i;
+    let seconds : option_map number (value_of d LIFETIME) ≡ lifetime = ap (option_map number) l ∙ seconds_back lifetime few in
+    let named : option_map first_byte (value_of d REQUESTED_ADDRESS_FAMILY) ≡ option_map family_byte family = ap (option_map first_byte) f ∙ family_back family in
+    let fault : bytes_fault d ≡ None =
+    (λ i. option_or (udp i) (if lifetime_whole i || (other_whole i || (bad 1 (e i) || (bad 8 (k i) || bad 4 (a i)))) then Some 400
+    else options_fault (record {
+      lifetime = seconds i;
+      family = named i;
       even = option_map (λ (byte : ℕ). nat_le 128 byte) (option_map first_byte (e i));
       token = option_map number (k i);
       additional = option_map first_byte (a i);
-    } in
-    let fault : bytes_fault d ≡ None =
-    (λ i. option_or (udp i) (if lifetime_whole i || (other_whole i || (bad 1 (e i) || (bad 8 (k i) || bad 4 (a i)))) then Some 400 else options_fault (options i)))
+    })))
     ∙ go_together lifetime family in
     by_tunnel (is_tunnelled client) (bytes_fault d) (wanted_for sockets (id_field d) (options_of d)) fault
-    ∙ (λ i. if is_tunnelled client then other (unfit_allocate 403) else wanted_for sockets (id_is i) (options i))
+    ∙ (λ i. if is_tunnelled client then other (unfit_allocate 403) else wanted_for sockets (id_is i) (record {
+      lifetime = seconds i;
+      family = named i;
+      even = option_map (λ (byte : ℕ). nat_le 128 byte) (option_map first_byte (e i));
+      token = option_map number (k i);
+      additional = option_map first_byte (a i);
+    }))
 
 -- ---- Refresh
 
