@@ -1,12 +1,12 @@
 -- A success response is judged as it was written.
-use Rattle.std.proofs.Common.{◌≡◌, ℕ, ◌+◌, ◌^◌, ◌<◌, ◌≤◌, Bool, true, false, List, [], ◌∷◌, ◌++◌, length, Option, None, Some, inl, inr, refl, sym, ap, subst, ◌∙◌, lit<, lit≤, arith}
-use Rattle.std.specs.Prelude.{◌⊎◌, ◌&&◌, ◌==◌, IfSome, find, is_some, not, option_and_then, if◌then◌else◌}
+use Rattle.std.proofs.Common.{◌≡◌, ℕ, ◌^◌, ◌<◌, ◌≤◌, Bool, true, false, List, [], ◌∷◌, ◌++◌, length, Option, None, Some, inl, inr, refl, sym, ap, subst, ◌∙◌, lit<, lit≤, arith}
+use Rattle.std.specs.Prelude.{◌⊎◌, ◌&&◌, IfSome, find, is_some, not, option_and_then}
 use Rattle.std.specs.List.{AllByRecursion, list_any}
 use Rattle.std.specs.Option.{option_map, option_map_or}
 use Rattle.stun_grammar.specs.declared.attribute_type.AttributeType.{AttributeType}
 use Rattle.stun_grammar.specs.declared.integrity_algorithm.IntegrityAlgorithm.{IntegrityAlgorithm}
 use Rattle.stun_grammar.specs.declared.integrity_algorithm.IntegrityAlgorithm.TheVariants.{Sha1, Sha256}
-use Rattle.stun_grammar.specs.Attributes.{Attribute, canonical, encodings, types}
+use Rattle.stun_grammar.specs.Attributes.{Attribute, encodings, types}
 use Rattle.stun_grammar.specs.AttributeTypes.{NONCE, SOFTWARE, XOR_MAPPED_ADDRESS, is_ending}
 use Rattle.stun_grammar.specs.Headers.{id_field, type_field}
 use Rattle.stun_grammar.specs.Numbers.{be32, number}
@@ -14,12 +14,10 @@ use Rattle.stun_grammar.specs.ScannedOrder.{has}
 use Rattle.stun_grammar.specs.Steps.{finger, sign}
 use Rattle.stun_grammar.proofs.StepsLemmas.{length-with_step, none_writable}
 use Rattle.stun_grammar.proofs.WritingLemmas.{length-message}
-use Rattle.stun_base.specs.declared.message_class.MessageClass.{MessageClass}
 use Rattle.stun_base.specs.declared.message_class.MessageClass.TheVariants.{Success as SuccessClass}
 use Rattle.stun_base.specs.MessageTypes.{class_of, method_of, type_of}
 use Rattle.stun_values.specs.Addresses.{xored_value}
-use Rattle.stun_types.specs.Replies.{unknown_types}
-use Rattle.stun_authentication.specs.Challenges.{is_bid_down, list_of}
+use Rattle.stun_authentication.specs.Challenges.{list_of}
 use Rattle.stun_authentication.specs.Cookies.{promises_algorithms}
 use Rattle.stun_authentication.specs.Identities.{value_of}
 use Rattle.stun_authentication.specs.Policies.{is_fingerprinted}
@@ -31,7 +29,6 @@ use Rattle.stun_exchanges.proofs.EndedLemmas.{IsFirst, IsMissing}
 use Rattle.stun_exchanges.proofs.LoginsWritableLemmas.{IsAdded, adds}
 use Rattle.stun_exchanges.proofs.ShortTermLemmas.{once_writable}
 use Rattle.stun_exchanges.proofs.TakenLemmas.{long_taken}
-use Rattle.stun_transactions.specs.declared.parts.Mechanism.TheVariants.{LongTerm}
 use Rattle.stun_transactions.specs.Guards.{proof_of}
 use Rattle.stun_transactions.specs.Responses.{first_unknown, own_types}
 use Rattle.turn_attrs.specs.Turn.{LIFETIME, XOR_RELAYED_ADDRESS}
@@ -46,13 +43,13 @@ use Rattle.turn_client_messages.specs.Requests.{id_of, method_for}
 use Rattle.turn_client_messages.specs.Understood.{understood}
 use Rattle.turn_client_messages.specs.Values.{read_seconds, read_xored}
 use Rattle.turn_client_messages.specs.Views.{Asked, Dealing}
-use Rattle.turn_machine.specs.Events.{Answer, Given, Missing, allocated, done, refreshed, refused}
+use Rattle.turn_machine.specs.Events.{Answer, Given, allocated, done, refreshed, refused}
 use Rattle.turn_requests.specs.Requests.{Credentials}
-use Rattle.turn_server.specs.Answers.{address_attribute, answer_attributes, answer_text, lifetime_attribute, relayed_attributes, software_attributes}
-use Rattle.turn_sessions.specs.Answers.{IsOf, IsOpening, IsSuccess, says}
+use Rattle.turn_server.specs.Answers.{address_attribute, answer_text, lifetime_attribute, relayed_attributes, software_attributes}
+use Rattle.turn_sessions.specs.Answers.{IsOf, IsSuccess, says}
 use Rattle.turn_sessions.specs.Sides.{IsTransport}
 use Rattle.turn_sessions.proofs.AddressesLemmas.{AreOfEndpoints, transport_added, transport_read, transport_size}
-use Rattle.turn_sessions.proofs.ShownLemmas.{IsRead, ended_signed, ending_types, first_value, is_other, no_value, none_unknown, one_size, read_message, value_is}
+use Rattle.turn_sessions.proofs.ShownLemmas.{IsRead, ended_signed, ending_types, is_other, no_value, none_unknown, one_size, read_message, value_is}
 
 -- what the law of fit responses says
 abbrev pub AreHeard : Type 0

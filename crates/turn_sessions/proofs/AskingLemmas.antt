@@ -1,9 +1,9 @@
 -- What a server reads of the attributes of each request (RFC 8656, sections 7.2, 8.2, 10.2 and 12.2).
-use Rattle.std.proofs.Common.{◌≡◌, ℕ, ◌+◌, ◌*◌, ◌/◌, ◌%◌, ◌^◌, ◌<◌, Bool, true, false, List, [], ◌∷◌, ◌++◌, length, map, take, Option, None, Some, refl, ap, ◌∙◌, arith}
+use Rattle.std.proofs.Common.{◌≡◌, ℕ, ◌^◌, ◌<◌, Bool, true, false, List, [], ◌∷◌, ◌++◌, length, map, take, Option, None, Some, refl, ap, ◌∙◌, arith}
 use Rattle.std.specs.Prelude.{◌||◌, ◌&&◌, ◌==◌, nat_le, not, is_some, unwrap_or, IfSome, slice_index, option_and_then, if◌then◌else◌}
-use Rattle.std.specs.List.{list_all, list_any}
+use Rattle.std.specs.List.{list_all}
 use Rattle.std.specs.Option.{option_map, option_map_or, option_or, option_to_list}
-use Rattle.stun_grammar.specs.Attributes.{Attribute, canonical, types}
+use Rattle.stun_grammar.specs.Attributes.{Attribute}
 use Rattle.stun_grammar.specs.AttributeTypes.{SOFTWARE}
 use Rattle.stun_grammar.specs.Headers.{id_field}
 use Rattle.stun_grammar.specs.Numbers.{be32, number}
@@ -11,7 +11,7 @@ use Rattle.stun_grammar.specs.ScannedOrder.{has}
 use Rattle.stun_grammar.specs.Showing.{shown}
 use Rattle.stun_base.specs.declared.transport.AddressFamily.{AddressFamily}
 use Rattle.stun_base.specs.declared.transport.AddressFamily.TheVariants.{IPV4, IPV6}
-use Rattle.stun_values.specs.Addresses.{address_fault, xored_value}
+use Rattle.stun_values.specs.Addresses.{xored_value}
 use Rattle.stun_authentication.specs.Identities.{value_of}
 use Rattle.stun_endpoints.specs.Conversions.{socket_of}
 use Rattle.stun_endpoints.specs.declared.endpoints.Endpoint.{Endpoint}
@@ -19,7 +19,7 @@ use Rattle.stun_endpoints.specs.declared.endpoints.Ip.{Ip}
 use Rattle.stun_exchanges.specs.Premises.{is_reserved}
 use Rattle.turn_attrs.specs.Channels.{channel_number}
 use Rattle.turn_attrs.specs.Turn.{ADDITIONAL_ADDRESS_FAMILY, CHANNEL_NUMBER, EVEN_PORT, LIFETIME, REQUESTED_ADDRESS_FAMILY, REQUESTED_TRANSPORT, RESERVATION_TOKEN, XOR_PEER_ADDRESS, family_byte, family_number, protocol_number}
-use Rattle.turn_machine.specs.Events.{Request, bind, permit, permit_request, refresh, unfit, unfit_allocate}
+use Rattle.turn_machine.specs.Events.{bind, permit, permit_request, refresh, unfit, unfit_allocate}
 use Rattle.turn_peers.specs.Tunnels.{is_tunnelled}
 use Rattle.turn_requests.specs.Requests.{allocate_attributes, channel_attribute, lifetime_attribute, named_peer, software_attributes}
 use Rattle.turn_server.specs.declared.sockets.Sockets.{Sockets}

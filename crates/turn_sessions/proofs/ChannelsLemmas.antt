@@ -1,6 +1,6 @@
 -- ChannelData is read as it was written, with padding or without (RFC 8656, sections 12.4 to 12.6).
-use Rattle.std.proofs.Common.{◌≡◌, ℕ, leb, ◌*◌, ◌+◌, ◌-◌, ◌/◌, ◌%◌, ◌^◌, ◌<◌, ◌≤◌, Bool, true, false, List, [], ◌∷◌, ◌++◌, length, take, drop, replicate, Option, Some, None, refl, sym, ap, subst, ◌∙◌, arith}
-use Rattle.std.specs.Prelude.{◌||◌, not, is_some, nat_lt, ◌==◌, if◌then◌else◌}
+use Rattle.std.proofs.Common.{◌≡◌, ℕ, ◌+◌, ◌/◌, ◌%◌, ◌^◌, ◌<◌, ◌≤◌, Bool, true, List, [], ◌∷◌, ◌++◌, length, take, replicate, Option, Some, None, refl, ap, subst, ◌∙◌, arith}
+use Rattle.std.specs.Prelude.{◌||◌, not, is_some, if◌then◌else◌}
 use Rattle.std.specs.List.{list_all}
 use Rattle.std.specs.Option.{option_map_or}
 use Rattle.std.proofs.lemmas.Bool.{le-ltb, le-leb, eq-eqb}
@@ -11,8 +11,8 @@ use Rattle.stun_base.specs.declared.transport.TransportType.{TransportType}
 use Rattle.stun_base.specs.declared.transport.TransportType.TheVariants.{Udp, Tcp}
 use Rattle.stun_framing.specs.declared.channel_range.ChannelRange.{ChannelRange}
 use Rattle.stun_framing.specs.declared.channel_range.ChannelRange.TheVariants.{Rfc8656, Rfc5766}
-use Rattle.stun_framing.specs.Channels.{greatest_first, begins_number}
-use Rattle.turn_attrs.specs.Channels.{begin_fault_in, channel_field, data_length}
+use Rattle.stun_framing.specs.Channels.{begins_number}
+use Rattle.turn_attrs.specs.Channels.{channel_field, data_length}
 use Rattle.turn_attrs.specs.ChannelMessages.{channel_fault, channel_message, data_field, data_in}
 use Rattle.turn_attrs.specs.Heads.{padded_message, padding_of}
 use Rattle.stun_endpoints.specs.declared.endpoints.FiveTuple.{FiveTuple}
@@ -21,7 +21,7 @@ use Rattle.turn_client_messages.specs.Judging.{channel_data, is_padded, judge as
 use Rattle.turn_client_messages.specs.Views.{Asked, Dealing}
 use Rattle.turn_server.specs.ChannelMessages.{range_to}
 use Rattle.turn_server.specs.Delivering.{message_on}
-use Rattle.turn_server.specs.Judging.{Site, Judged, channel_message as read_channel, dropped, judge, message, sent_on}
+use Rattle.turn_server.specs.Judging.{Site, channel_message as read_channel, dropped, judge, message, sent_on}
 use Rattle.turn_sessions.specs.Sides.{IsChannel, IsTransported}
 
 -- a message, and zeros after it

@@ -1,5 +1,5 @@
 -- Error responses and challenges are judged as they were written.
-use Rattle.std.proofs.Common.{◌≡◌, ℕ, ◌+◌, ◌^◌, ◌<◌, ◌≤◌, Bool, true, false, List, [], ◌∷◌, ◌++◌, length, Option, None, Some, Ok, Result, inl, inr, refl, sym, ap, subst, ◌∙◌, lit<, lit≤, arith}
+use Rattle.std.proofs.Common.{◌≡◌, ℕ, ◌^◌, ◌<◌, ◌≤◌, Bool, true, false, List, [], ◌∷◌, ◌++◌, length, Option, None, Some, Ok, inl, inr, refl, sym, ap, subst, ◌∙◌, lit<, lit≤, arith}
 use Rattle.std.specs.Prelude.{◌||◌, ◌&&◌, ◌==◌, IfSome, find, is_some, not, option_and_then, if◌then◌else◌}
 use Rattle.std.specs.List.{AllByRecursion, list_any}
 use Rattle.std.specs.Option.{option_map, option_map_or, option_or}
@@ -8,7 +8,7 @@ use Rattle.stun_grammar.specs.declared.attribute_type.AttributeType.{AttributeTy
 use Rattle.stun_grammar.specs.declared.error.StunParseError.TheVariants.{InvalidAttributeData}
 use Rattle.stun_grammar.specs.declared.integrity_algorithm.IntegrityAlgorithm.{IntegrityAlgorithm}
 use Rattle.stun_grammar.specs.declared.integrity_algorithm.IntegrityAlgorithm.TheVariants.{Sha1, Sha256}
-use Rattle.stun_grammar.specs.Attributes.{Attribute, canonical, encodings, types}
+use Rattle.stun_grammar.specs.Attributes.{Attribute, canonical, types}
 use Rattle.stun_grammar.specs.AttributeTypes.{ERROR_CODE}
 use Rattle.stun_grammar.specs.Chains.{Shown}
 use Rattle.stun_grammar.specs.Headers.{id_field, type_field}
@@ -23,13 +23,11 @@ use Rattle.stun_attributes.specs.DefaultReasons.{default_reason}
 use Rattle.stun_types.specs.LookingUp.{nth}
 use Rattle.stun_types.specs.Replies.{error_attribute}
 use Rattle.stun_authentication.specs.declared.answer.Refusal.{Refusal}
-use Rattle.stun_authentication.specs.declared.retry.NoRetry.{NoRetry}
 use Rattle.stun_authentication.specs.Answers.{refusal_code}
 use Rattle.stun_authentication.specs.Asking.{Asked as Challenged}
-use Rattle.stun_authentication.specs.Challenges.{Retry, challenge_of, retry_with}
+use Rattle.stun_authentication.specs.Challenges.{challenge_of, retry_with}
 use Rattle.stun_authentication.specs.Codes.{code_by_class, is_challenge, is_code, response_code, shown_code, value_code}
 use Rattle.stun_authentication.specs.Cookies.{promises_algorithms}
-use Rattle.stun_authentication.specs.Identities.{value_of}
 use Rattle.stun_authentication.specs.Policies.{is_fingerprinted}
 use Rattle.stun_authentication.specs.Refusing.{refusal_attributes, refusal_of}
 use Rattle.stun_authentication.specs.Writing.{signed_reply}
@@ -40,18 +38,18 @@ use Rattle.stun_exchanges.proofs.ChallengeLemmas.{challenges, code_reported, cod
 use Rattle.stun_exchanges.proofs.EndedLemmas.{IsFirst, IsMissing}
 use Rattle.stun_exchanges.proofs.TakenLemmas.{long_taken}
 use Rattle.stun_transactions.specs.declared.received.Failure.TheVariants.{NoErrorCode, UnknownAttribute}
-use Rattle.stun_transactions.specs.declared.received.Outcome.{Outcome}
 use Rattle.stun_transactions.specs.declared.received.Outcome.TheVariants.{Error, Failed, NotForThis}
-use Rattle.stun_transactions.specs.Guards.{guard_fault, long_term_fault, mechanism_fault, proof_of}
-use Rattle.stun_transactions.specs.Receiving.{claim_of, content, content_by_class, discarded, judged}
+use Rattle.stun_transactions.specs.Guards.{guard_fault, proof_of}
+use Rattle.stun_transactions.specs.Receiving.{claim_of, content_by_class, discarded}
 use Rattle.stun_transactions.specs.Responses.{first_unknown, own_types}
-use Rattle.turn_client_machine.specs.declared.requests.Answer.TheVariants.{Refused}
+use Rattle.turn_client_machine.specs.declared.requests.Answer.TheVariants.{Redirected, Refused}
 use Rattle.turn_client_machine.specs.declared.requests.Kind.{Kind}
 use Rattle.turn_client_machine.specs.declared.requests.Kind.TheVariants.{Allocate, Refresh, Delete, Permit, Bind}
 use Rattle.turn_client_messages.specs.Judging.{by_challenge, by_class, by_outcome, challenge, error, judge, other_error, response, stray}
-use Rattle.turn_client_messages.specs.Pending.{is_authentic, key_of, mechanism_of, pending, realm_tried, signed_with, turn_policy}
+use Rattle.turn_client_messages.specs.Pending.{is_authentic, key_of, mechanism_of, realm_tried, signed_with, turn_policy}
 use Rattle.turn_client_messages.specs.Requests.{id_of, method_for}
 use Rattle.turn_client_messages.specs.Understood.{understood}
+use Rattle.turn_client_messages.specs.Values.{alternate_in}
 use Rattle.turn_client_messages.specs.Views.{Asked, Dealing}
 use Rattle.turn_machine.specs.Events.{refused}
 use Rattle.turn_requests.specs.Requests.{Credentials}
@@ -133,52 +131,79 @@ each P (x ∷ xs) all code e = elim (cases_Bool (x == code)) [
 
 all_hold : AllByRecursion Holds ANSWER_CODES
 unfolding small
-all_hold = (record {
-      back = ap (λ (b : Bool). if is_some (option_or None (if true && b then None else Some InvalidAttributeData)) then None else Some 400) (utf8_of (default_reason 400) refl);
-      short = lit≤ tt;
-      no_challenge = refl;
-      stays = refl;
-    }, (record {
+all_hold = (
+  record {
+    back = ap (λ (b : Bool). if is_some (option_or None (if true && b then None else Some InvalidAttributeData)) then None else Some 400) (utf8_of (default_reason 400) refl);
+    short = lit≤ tt;
+    no_challenge = refl;
+    stays = refl;
+  },
+  (
+    record {
       back = ap (λ (b : Bool). if is_some (option_or None (if true && b then None else Some InvalidAttributeData)) then None else Some 403) (utf8_of (default_reason 403) refl);
       short = lit≤ tt;
       no_challenge = refl;
       stays = refl;
-    }, (record {
-      back = ap (λ (b : Bool). if is_some (option_or None (if true && b then None else Some InvalidAttributeData)) then None else Some 437) (utf8_of (default_reason 437) refl);
-      short = lit≤ tt;
-      no_challenge = refl;
-      stays = refl;
-    }, (record {
-      back = ap (λ (b : Bool). if is_some (option_or None (if true && b then None else Some InvalidAttributeData)) then None else Some 440) (utf8_of (default_reason 440) refl);
-      short = lit≤ tt;
-      no_challenge = refl;
-      stays = refl;
-    }, (record {
-      back = ap (λ (b : Bool). if is_some (option_or None (if true && b then None else Some InvalidAttributeData)) then None else Some 441) (utf8_of (default_reason 441) refl);
-      short = lit≤ tt;
-      no_challenge = refl;
-      stays = refl;
-    }, (record {
-      back = ap (λ (b : Bool). if is_some (option_or None (if true && b then None else Some InvalidAttributeData)) then None else Some 442) (utf8_of (default_reason 442) refl);
-      short = lit≤ tt;
-      no_challenge = refl;
-      stays = refl;
-    }, (record {
-      back = ap (λ (b : Bool). if is_some (option_or None (if true && b then None else Some InvalidAttributeData)) then None else Some 443) (utf8_of (default_reason 443) refl);
-      short = lit≤ tt;
-      no_challenge = refl;
-      stays = refl;
-    }, (record {
-      back = ap (λ (b : Bool). if is_some (option_or None (if true && b then None else Some InvalidAttributeData)) then None else Some 486) (utf8_of (default_reason 486) refl);
-      short = lit≤ tt;
-      no_challenge = refl;
-      stays = refl;
-    }, (record {
-      back = ap (λ (b : Bool). if is_some (option_or None (if true && b then None else Some InvalidAttributeData)) then None else Some 508) (utf8_of (default_reason 508) refl);
-      short = lit≤ tt;
-      no_challenge = refl;
-      stays = refl;
-    }, tt)))))))))
+    },
+    (
+      record {
+        back = ap (λ (b : Bool). if is_some (option_or None (if true && b then None else Some InvalidAttributeData)) then None else Some 437) (utf8_of (default_reason 437) refl);
+        short = lit≤ tt;
+        no_challenge = refl;
+        stays = refl;
+      },
+      (
+        record {
+          back = ap (λ (b : Bool). if is_some (option_or None (if true && b then None else Some InvalidAttributeData)) then None else Some 440) (utf8_of (default_reason 440) refl);
+          short = lit≤ tt;
+          no_challenge = refl;
+          stays = refl;
+        },
+        (
+          record {
+            back = ap (λ (b : Bool). if is_some (option_or None (if true && b then None else Some InvalidAttributeData)) then None else Some 441) (utf8_of (default_reason 441) refl);
+            short = lit≤ tt;
+            no_challenge = refl;
+            stays = refl;
+          },
+          (
+            record {
+              back = ap (λ (b : Bool). if is_some (option_or None (if true && b then None else Some InvalidAttributeData)) then None else Some 442) (utf8_of (default_reason 442) refl);
+              short = lit≤ tt;
+              no_challenge = refl;
+              stays = refl;
+            },
+            (
+              record {
+                back = ap (λ (b : Bool). if is_some (option_or None (if true && b then None else Some InvalidAttributeData)) then None else Some 443) (utf8_of (default_reason 443) refl);
+                short = lit≤ tt;
+                no_challenge = refl;
+                stays = refl;
+              },
+              (
+                record {
+                  back = ap (λ (b : Bool). if is_some (option_or None (if true && b then None else Some InvalidAttributeData)) then None else Some 486) (utf8_of (default_reason 486) refl);
+                  short = lit≤ tt;
+                  no_challenge = refl;
+                  stays = refl;
+                },
+                (
+                  record {
+                    back = ap (λ (b : Bool). if is_some (option_or None (if true && b then None else Some InvalidAttributeData)) then None else Some 508) (utf8_of (default_reason 508) refl);
+                    short = lit≤ tt;
+                    no_challenge = refl;
+                    stays = refl;
+                  },
+                  tt,
+                ),
+              ),
+            ),
+          ),
+        ),
+      ),
+    ),
+  ),
+)
 
 refused_few : (code : ℕ) (software : Option (List ℕ)) → Holds code → IfSome software (λ name. length name ≤ 763) → AreFew (error_attribute code (default_reason code) ∷ software_attributes software)
 refused_few code software h short =
@@ -229,7 +254,7 @@ refused_heard first missing dealing r login software client q code key a of has_
     ap (λ (n : ℕ). judge dealing (Some r) (signed_reply print (type_of ErrorClass n) id xs a key)) of.method_is
     ∙ error_heard dealing r d code e
     ∙ ap (λ (b : Bool). if b then by_challenge (id_field d) (is_authentic r d) code (challenge_of dealing.algorithms (realm_tried r.login) dealing.had_algorithms d) else response (id_field d) (is_authentic r d) (other_error dealing code d)) no_challenge
-    ∙ (λ i. response (e.id_is i) (proved first missing print kind id xs a key r login m.fits small_id f has_login works i) (if h.stays i then other_error dealing code d else Refused code))
+    ∙ (λ i. response (e.id_is i) (proved first missing print kind id xs a key r login m.fits small_id f has_login works i) (if h.stays i then option_map_or (λ (server : Endpoint). Redirected server) (alternate_in dealing.server.ip.family d) (Refused code) else Refused code))
 
 -- ---- A challenge, which isn't signed
 

@@ -1,6 +1,6 @@
 -- The steps by which a message is judged.
-use Rattle.std.proofs.Common.{◌≡◌, ℕ, ◌<◌, Bool, true, false, List, [], ◌∷◌, Option, None, refl, ap, ◌∙◌, rules, arith}
-use Rattle.std.specs.Prelude.{is_some, ◌&&◌, if◌then◌else◌}
+use Rattle.std.proofs.Common.{◌≡◌, ℕ, ◌<◌, Bool, false, List, [], ◌∷◌, Option, None, ap, rules, arith}
+use Rattle.std.specs.Prelude.{if◌then◌else◌}
 use Rattle.stun_grammar.specs.Parsing.{parse_fault}
 use Rattle.stun_grammar.proofs.HeadersLemmas.{header_there, first_low}
 use Rattle.stun_grammar.proofs.ParsingLemmas.{parsed_header}

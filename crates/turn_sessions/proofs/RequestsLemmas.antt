@@ -1,5 +1,5 @@
 -- A request is judged as it was written.
-use Rattle.std.proofs.Common.{◌≡◌, ℕ, ◌%◌, ◌^◌, ◌<◌, ◌≤◌, Bool, true, false, eqb, List, [], ◌∷◌, ◌++◌, length, map, Option, None, Some, refl, sym, ap, subst, ◌∙◌, lit<, arith}
+use Rattle.std.proofs.Common.{◌≡◌, ℕ, ◌^◌, ◌<◌, ◌≤◌, Bool, true, false, eqb, List, [], ◌∷◌, ◌++◌, length, map, Option, None, Some, refl, sym, ap, subst, ◌∙◌, lit<, arith}
 use Rattle.std.specs.Prelude.{◌||◌, ◌==◌, is_some, not, IfSome, if◌then◌else◌}
 use Rattle.std.specs.List.{AllByRecursion, list_all, list_any}
 use Rattle.std.specs.Option.{option_to_list}
@@ -22,12 +22,12 @@ use Rattle.stun_base.specs.declared.transport.AddressFamily.{AddressFamily}
 use Rattle.stun_base.specs.MessageTypes.{class_of, method_of}
 use Rattle.stun_values.specs.declared.algorithm.PasswordAlgorithmValue.{PasswordAlgorithmValue}
 use Rattle.stun_authentication.specs.declared.policy.Policy.{Policy}
-use Rattle.stun_authentication.specs.declared.answer.Refusal.TheVariants.{Unauthenticated}
+use Rattle.stun_authentication.specs.declared.answer.Refusal.TheVariants.{BadRequest, Unauthenticated}
 use Rattle.stun_authentication.specs.Answers.{Decision, Row, accept, decided, discard, not_a_request, refuse}
 use Rattle.stun_authentication.specs.Asking.{Asked as Challenged}
 use Rattle.stun_authentication.specs.Challenges.{Retry, retry_with, signing_algorithm}
 use Rattle.stun_authentication.specs.Identities.{Who, named, hashed}
-use Rattle.stun_authentication.specs.LongTerm.{is_request, long_term}
+use Rattle.stun_authentication.specs.LongTerm.{by_key, chooses_none_listed, chosen, has_two_names, is_request, key_of_user, lacks_credentials, long_term, nonce_of, shows_one_alone, shows_other_list}
 use Rattle.stun_authentication.specs.Lookups.{Known, UserKey}
 use Rattle.stun_authentication.specs.Policies.{is_signed, is_taken, shows_integrity, shows_served}
 use Rattle.stun_authentication.specs.Writing.{finished}
@@ -49,14 +49,14 @@ use Rattle.turn_attrs.specs.Turn.{XOR_PEER_ADDRESS}
 use Rattle.turn_requests.specs.Requests.{Credentials, allocate_attributes, ended, lifetime_attribute, software_attributes}
 use Rattle.turn_server.specs.Accounts.{account_of}
 use Rattle.turn_server.specs.Comprehended.{comprehended}
-use Rattle.turn_server.specs.Judging.{Site, Judged, asked, binding, by_class, decided_as, dropped, judge, refused, unknown}
+use Rattle.turn_server.specs.Judging.{Site, asked, binding, by_class, decided_as, dropped, judge, refused, unknown}
 use Rattle.turn_server.specs.Requests.{asks_table, request_of}
 use Rattle.turn_server.specs.Wanted.{Wanted, other}
 use Rattle.turn_sessions.specs.Answers.{IsOf}
 use Rattle.turn_sessions.specs.Requests.{wanted_as, wanted_by}
 use Rattle.turn_sessions.specs.Sides.{Admits, Fits, IsInFields, IsLogin, IsNamed}
 use Rattle.turn_sessions.proofs.AddressesLemmas.{AreOfEndpoints, transport_added}
-use Rattle.turn_sessions.proofs.AskingLemmas.{IsFoundIn, allocate_read, bind_read, found_in, peers_in, permit_read, refresh_read}
+use Rattle.turn_sessions.proofs.AskingLemmas.{allocate_read, bind_read, found_in, peers_in, permit_read, refresh_read}
 use Rattle.turn_sessions.proofs.JudgingLemmas.{judge_is}
 use Rattle.turn_sessions.proofs.ShownLemmas.{IsEnded, IsRead, ended_after, ended_open, ended_signed, ending_types, is_other, none_unknown, print_types, read_message, writable}
 
@@ -411,8 +411,11 @@ open_refused first missing last_channel sets_df site content r no_login printed 
     let own = own_is content request fields names (room_down kind id before e.more (subst (HasRoom kind id) e.whole fits)) in
     let taken : is_taken site.policy d ≡ true = print_taken first site.policy.fingerprint content.fingerprint kind id before (open_is content request fields names fits) (no_print (types before) (none_ends (types before) own.own)) printed in
     let class : class_of (type_field d) ≡ RequestClass = ap class_of shows.type_is ∙ (method_is request.kind).class_is in
+    let state = nonce_of site.nonces d in
     let denied : long_term site.policy site.realm site.nonces site.keys d ≡ refuse Unauthenticated =
-    third (not (is_taken site.policy d)) (not (is_request (class_of (type_field d)))) (not (is_signed site.policy d)) discard not_a_request (refuse Unauthenticated) _ _
+    third (not (is_taken site.policy d)) (not (is_request (class_of (type_field d)))) (not (is_signed site.policy d)) discard not_a_request (refuse Unauthenticated)
+    ((lacks_credentials d, refuse BadRequest) ∷ (has_two_names d, refuse BadRequest) ∷ (shows_one_alone d, refuse BadRequest) ∷ (shows_other_list state d, refuse BadRequest) ∷ (chooses_none_listed d, refuse BadRequest) ∷ [])
+    (by_key site.policy state (chosen d) (key_of_user site.realm site.keys d) d)
     (ap not taken) (ap (λ (c : MessageClass). not (is_request c)) class) (ap not (none_served missing site.policy.algorithm content request d shows)) in
     ap (judge last_channel sets_df site) text
     ∙ decided_is last_channel sets_df site request.kind id before (print_types content.fingerprint) d (refuse Unauthenticated) shows denied

@@ -1,16 +1,15 @@
 -- What a written message shows: the attributes that it was written with, and those that end it.
-use Rattle.std.proofs.Common.{◌≡◌, ℕ, ◌+◌, ◌^◌, ◌<◌, ◌≤◌, Bool, true, false, eqb, List, [], ◌∷◌, ◌++◌, length, map, Option, None, Some, refl, sym, ap, ◌∙◌, append_assoc, arith}
-use Rattle.std.specs.Prelude.{◌||◌, ◌&&◌, ◌==◌, filter, slice_get, if◌then◌else◌}
+use Rattle.std.proofs.Common.{◌≡◌, ℕ, ◌+◌, ◌^◌, ◌<◌, Bool, true, false, List, [], ◌∷◌, ◌++◌, length, map, Option, None, Some, refl, sym, ap, ◌∙◌, append_assoc, arith}
+use Rattle.std.specs.Prelude.{◌==◌, filter, slice_get, if◌then◌else◌}
 use Rattle.std.specs.Option.{option_map}
-use Rattle.std.specs.List.{AllByRecursion, list_all, list_any}
-use Rattle.std.proofs.lemmas.Bool.{ne_eqb, or_from, or_parts, and_parts}
+use Rattle.std.specs.List.{AllByRecursion, list_any}
+use Rattle.std.proofs.lemmas.Bool.{or_from, or_parts}
 use Rattle.std.proofs.lemmas.List.Folds.{list_any-append}
 use Rattle.std.proofs.lemmas.List.{append-nil, length-append, map-append}
 use Rattle.stun_grammar.specs.declared.attribute_type.AttributeType.{AttributeType}
-use Rattle.stun_grammar.specs.declared.error.StunParseError.{StunParseError}
 use Rattle.stun_grammar.specs.declared.integrity_algorithm.IntegrityAlgorithm.{IntegrityAlgorithm}
 use Rattle.stun_grammar.specs.Attributes.{Attribute, canonical, encoding, encodings, types}
-use Rattle.stun_grammar.specs.AttributeTypes.{FINGERPRINT, is_ending}
+use Rattle.stun_grammar.specs.AttributeTypes.{FINGERPRINT}
 use Rattle.stun_grammar.specs.Chains.{Shown, placed}
 use Rattle.stun_grammar.specs.Headers.{id_field, type_field}
 use Rattle.stun_grammar.specs.Numbers.{padded_length}
@@ -21,11 +20,11 @@ use Rattle.stun_grammar.specs.Steps.{appended_by, finger, sign}
 use Rattle.stun_grammar.specs.Verdicts.{type_of_algorithm}
 use Rattle.stun_grammar.specs.Writing.{IsWritable, message_encoding}
 use Rattle.stun_grammar.proofs.StepsLemmas.{none_writable}
-use Rattle.stun_grammar.proofs.WritingLemmas.{id-message, length-canonical, length-message, parse-message, shown-message, type-message}
+use Rattle.stun_grammar.proofs.WritingLemmas.{id-message, length-canonical, parse-message, shown-message, type-message}
 use Rattle.stun_types.specs.Replies.{is_unknown, unknown_types}
 use Rattle.stun_authentication.specs.Identities.{value_of}
 use Rattle.stun_authentication.specs.Writing.{finished, signed}
-use Rattle.stun_exchanges.specs.Premises.{HasRoom, is_reserved}
+use Rattle.stun_exchanges.specs.Premises.{HasRoom}
 use Rattle.stun_exchanges.proofs.LoginsWritableLemmas.{IsAdded, adds}
 
 -- ---- What it is

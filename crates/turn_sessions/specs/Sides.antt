@@ -1,6 +1,6 @@
 -- A client and its server, as the laws need them: what both have to agree on.
 use Rattle.std.specs.Prelude.{◌≡◌, ℕ, ◌^◌, ◌<◌, ◌≤◌, Bool, true, false, List, length, Some, IfSome, ◌==◌}
-use Rattle.stun_grammar.specs.Writing.{message_encoding, greatest_length}
+use Rattle.stun_grammar.specs.Writing.{greatest_length}
 use Rattle.stun_base.specs.declared.transport.TransportType.{TransportType}
 use Rattle.stun_base.specs.declared.transport.TransportType.TheVariants.{Udp, Tcp}
 use Rattle.stun_keys.specs.Keys.{key_bytes}
@@ -14,8 +14,7 @@ use Rattle.stun_exchanges.specs.Offers.{IsOffered, Takes, IsShort}
 use Rattle.stun_exchanges.specs.Premises.{Serves, Works}
 use Rattle.turn_client_machine.specs.declared.requests.Kind.{Kind}
 use Rattle.turn_client_machine.specs.declared.requests.Kind.TheVariants.{Allocate, Refresh, Delete, Permit, Bind}
-use Rattle.turn_client_messages.specs.Views.{Asked, Content}
-use Rattle.turn_client_messages.specs.Requests.{text_of}
+use Rattle.turn_client_messages.specs.Views.{Content}
 use Rattle.turn_requests.specs.Requests.{Credentials}
 use Rattle.turn_server.specs.Judging.{Site}
 
