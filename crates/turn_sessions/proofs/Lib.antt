@@ -7,3 +7,4 @@ mod AskingLemmas
 mod RequestsLemmas
 mod AnswersLemmas
 mod ErrorsLemmas
+mod CrossingLemmas

@@ -4,4 +4,4 @@
 
 mod laws;
 
-pub use laws::{data_is_read, requests_are_read, responses_are_judged};
+pub use laws::{data_crosses, data_is_read, requests_are_read, responses_are_judged};
