@@ -6,6 +6,6 @@ mod requests;
 mod responses;
 
 pub use crossing::data_crosses;
-pub use data::data_is_read;
+pub use data::{channel_data_is_read, data_is_read};
 pub use requests::requests_are_read;
 pub use responses::responses_are_judged;

@@ -4,4 +4,6 @@
 
 mod laws;
 
-pub use laws::{data_crosses, data_is_read, requests_are_read, responses_are_judged};
+pub use laws::{
+    channel_data_is_read, data_crosses, data_is_read, requests_are_read, responses_are_judged,
+};

@@ -15,30 +15,34 @@ ghost use Rattle.turn_sessions.specs.Sides.{Fits, IsChannel, IsTransport, IsTran
 
 use stun_endpoints::sockets_are_of_endpoints;
 
-/// Data that a client writes for a peer, the server reads as data for this very peer, exactly: from a Send
-/// indication, without DONT-FRAGMENT (RFC 8656, section 11.2), or from ChannelData of the peer's channel
-/// (section 12.6). Data of a peer that the server writes, the client reads as data of this very peer, exactly:
-/// from a Data indication (section 11.4), or from ChannelData of that channel. Over UDP and on a stream.
+/// Data that a client writes for a peer, the server reads as data for this very peer, exactly, without
+/// DONT-FRAGMENT, from a Send indication (RFC 8656, section 11.2). Data of a peer that the server writes, the client
+/// reads as data of this very peer, exactly, from a Data indication (section 11.4).
 pub fn data_is_read()
     ensures sent { (last_channel : ℕ) (sets_df : Bool) (site : Site) (transport : TransportType) (id : ℕ)
         (peer : Endpoint) (bytes : List ℕ) → id < 2 ^ 96 → IsTransport peer → length bytes < 2 ^ 16
         → Fits (carried transport (Indication id peer) bytes)
         → judge last_channel sets_df site (carried transport (Indication id peer) bytes)
         ≡ sent peer false bytes }
-    ensures sent_on { (last_channel : ℕ) (sets_df : Bool) (site : Site) (transport : TransportType)
-        (channel : ℕ) (bytes : List ℕ) → IsChannel channel → length bytes < 2 ^ 16
-        → judge last_channel sets_df site (carried transport (Channel channel) bytes)
-        ≡ sent_on channel bytes }
     ensures given { (dealing : Dealing) (request : Option Asked) (tuple : FiveTuple) (id : ℕ)
         (peer : Endpoint) (bytes : List ℕ) → id < 2 ^ 96 → IsTransport peer → length bytes < 2 ^ 16
         → Fits (message_by tuple None id (socket_of peer) bytes)
         → hears dealing request (message_by tuple None id (socket_of peer) bytes)
         ≡ peer_data peer bytes }
+{
+    sockets_are_of_endpoints();
+}
+
+/// The same of ChannelData (RFC 8656, section 12.6): what one side writes on a channel, the other reads as that
+/// data, exactly, on that channel. Over UDP and on a stream.
+pub fn channel_data_is_read()
+    ensures sent_on { (last_channel : ℕ) (sets_df : Bool) (site : Site) (transport : TransportType)
+        (channel : ℕ) (bytes : List ℕ) → IsChannel channel → length bytes < 2 ^ 16
+        → judge last_channel sets_df site (carried transport (Channel channel) bytes)
+        ≡ sent_on channel bytes }
     ensures given_on { (dealing : Dealing) (request : Option Asked) (tuple : FiveTuple) (id channel : ℕ)
         (peer : Endpoint) (bytes : List ℕ) → IsChannel channel → length bytes < 2 ^ 16
         → IsTransported dealing.transport tuple.transport
         → hears dealing request (message_by tuple (Some channel) id (socket_of peer) bytes)
         ≡ channel_data channel bytes }
-{
-    sockets_are_of_endpoints();
-}
+{}

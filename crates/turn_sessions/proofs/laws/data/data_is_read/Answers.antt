@@ -1,4 +1,3 @@
-use Rattle.turn_sessions.proofs.ChannelsLemmas.{channel_heard, channel_read}
 use Rattle.turn_sessions.proofs.DataLemmas.{given_heard, sent_read}
 use Rattle.turn_sessions.proofs.laws.data.data_is_read.Goals as goal
 
@@ -6,11 +5,5 @@ pub returns-clause-sent : goal.returns-clause-sent
 returns-clause-sent c = λ last_channel sets_df site transport id peer bytes.
     sent_read c.sockets_are_of_endpoints.ensures last_channel sets_df site id peer bytes
 
-pub returns-clause-sent_on : goal.returns-clause-sent_on
-returns-clause-sent_on c = channel_read
-
 pub returns-clause-given : goal.returns-clause-given
 returns-clause-given c = λ dealing request tuple. given_heard c.sockets_are_of_endpoints.ensures dealing request
-
-pub returns-clause-given_on : goal.returns-clause-given_on
-returns-clause-given_on c = λ dealing request tuple id channel peer bytes. channel_heard dealing request tuple channel bytes
