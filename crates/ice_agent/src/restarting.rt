@@ -4,6 +4,7 @@ ghost use Rattle.std.specs.Prelude.{◌≡◌, ℕ, List, None, Some};
 ghost use Rattle.ice_machine.specs.Events.{arrives, sends};
 ghost use Rattle.ice_agent_state.specs.Outputs.{data_by, data_of};
 ghost use Rattle.ice_agent_state.specs.Restarts.{IsSessionWake};
+ghost use Rattle.ice_agent_state.specs.Restarts as states;
 ghost use Rattle.ice_agent.specs.Agents.{passes};
 ghost use Rattle.ice_agent.specs.Restarts as restarts;
 ghost use Rattle.ice_agent.specs.Restarts.{OlderPolls, ReturnsBy, SessionPolls, SessionReceives};
@@ -76,7 +77,7 @@ fn is_own(judged: &Judged) -> bool
 }
 
 /// Which agents take a datagram, by what it is for the newer one and for the older one.
-fn taker(newer: &Judged, older: &Judged) -> Taker
+fn taker_of(newer: &Judged, older: &Judged) -> Taker
     ensures { result ≡ restarts.taker newer.now older.now }
 {
     match newer {
@@ -131,14 +132,25 @@ fn take_either<'d>(
 {
     let for_newer = newer.judged(base, from, datagram);
     let for_older = older.judged(base, from, datagram);
-    match taker(&for_newer, &for_older) {
-        Taker::Newer => newer.take_judged(alloc, now, base, from, datagram, &for_newer, random, out),
-        Taker::Older => older.take_judged(alloc, now, base, from, datagram, &for_older, random, out),
+    match taker_of(&for_newer, &for_older) {
+        Taker::Newer => newer.take_judged(
+            alloc, now, base, from, datagram, &for_newer, random, out,
+        ),
+        Taker::Older => older.take_judged(
+            alloc, now, base, from, datagram, &for_older, random, out,
+        ),
         Taker::Both => match arrive_at(newer, older, now, base, from) {
             Some(component) => Ok(Received::Data(component, datagram)),
             None => Ok(Received::Nothing),
         },
     }
+}
+
+/// Whether a restart is over.
+fn is_over(newer: &Agent, older: &Agent) -> bool
+    ensures { result ≡ states.is_replaced newer.now.held older.now.held }
+{
+    is_replaced(&newer.state, &older.state)
 }
 
 /// Polls the older agent.
@@ -243,11 +255,11 @@ impl Session {
     fn relieve(&mut self)
         ensures { self.new ≡ restarts.relieved self.old }
     {
-        let is_over = match &self.older {
-            Some(older) => is_replaced(&self.newer.state, &older.state),
+        let ends = match &self.older {
+            Some(older) => is_over(&self.newer, older),
             None => false,
         };
-        if is_over {
+        if ends {
             self.older = None;
         }
     }

@@ -1,7 +1,7 @@
 -- Two sides that check each other in datagrams are two of the machine.
 use Rattle.std.proofs.Common.{◌≡◌, ℕ, ◌%◌, ◌^◌, Bool, true, false, cond, filter, find, List, [], ◌∷◌, Option, None, Some, refl, sym, ap, subst, ◌∙◌}
 use Rattle.std.proofs.lemmas.Bool.{cond_both}
-use Rattle.std.specs.Prelude.{◌||◌}
+use Rattle.std.specs.Prelude.{◌||◌, nat_le, if◌then◌else◌}
 use Rattle.std.specs.List.{list_any}
 use Rattle.std.specs.Option.{option_map_or}
 use Rattle.stun_grammar.specs.declared.integrity_algorithm.IntegrityAlgorithm.{IntegrityAlgorithm}
@@ -17,6 +17,9 @@ use Rattle.ice_machine.specs.Agents.{Setup, State}
 use Rattle.ice_machine.specs.Events.{Event, checks, responds, Output, asks, answers, data_to, data_from, nothing}
 use Rattle.ice_machine.specs.Exchanges.{Side as Part, IsCrossing as PartsCross, IsExchange as PartsExchange, IsSteady, answered_with as part_answered, checked_by as part_checked, delivered}
 use Rattle.ice_machine.specs.Roles.{RoleDecision, keep, switch, refuse, other_role, role_decision}
+use Rattle.ice_machine.specs.declared.roles.Role.{Role}
+use Rattle.ice_machine.specs.declared.roles.Role.TheVariants.{Controlling, Controlled}
+use Rattle.ice_attrs.specs.Roles.{role_decision as attribute_decision}
 use Rattle.ice_machine.specs.Steps.{Step, at, checked, decides, does_nothing, is_base, is_request, step}
 use Rattle.ice_agent_state.specs.Agents.{output_at}
 use Rattle.ice_checks.specs.declared.judged.Judged.{Judged}
@@ -27,7 +30,7 @@ use Rattle.ice_agent.specs.Agents.{Agent}
 use Rattle.ice_agent.specs.Receiving.{Reply, check_response, event_at, is_awaited, judged, received, received_as, reply_text, signing_by}
 use Rattle.ice_exchanges.specs.Meetings.{IsPaired, bytes_of, reply_by}
 use Rattle.ice_exchanges.specs.Peers.{Knows}
-use Rattle.ice_exchanges.specs.Roles.{IsAsking, IsCrossing, IsExchange, Side, IsWaiting, answered_with, checked_by, datagram_from, reply_of}
+use Rattle.ice_exchanges.specs.Roles.{IsAsking, IsCrossing, IsExchange, Side, IsWaiting, answered_with, checked_by, datagram_from, decision_as, reply_of, shown_role}
 use Rattle.ice_exchanges.proofs.MeetingLemmas.{arrives_as, response_as}
 
 -- ---- A response is waited for
@@ -40,6 +43,7 @@ kept_any test good x xs rest e = cond_both (test x) (x ∷ filter test xs) (filt
     or_right : (a b : Bool) → b ≡ true → (a || b) ≡ true
     or_right true b e = refl
     or_right false b e = e
+
     either : (a b c : Bool) → (b ≡ true → c ≡ true) → (a || b) ≡ true → (a || c) ≡ true
     either true b c f e = refl
     either false b c f e = f e
@@ -170,3 +174,15 @@ pub steady : ((setup : Setup) (state : State) (now fresh : ℕ) (c : Check) → 
     → (agent : Agent) (now fresh base : ℕ) (from : Endpoint) (d : List ℕ) (check : Check) (algorithm : IntegrityAlgorithm) → judged agent base from d ≡ Checks check algorithm → IsSteady agent.held.state (received now fresh base from d agent).held.state check
 steady law agent now fresh base from d check algorithm e =
     subst (λ (j : Judged). IsSteady agent.held.state (received_as j now fresh base from d agent).held.state check) (sym e) (law agent.held.setup agent.held.state now fresh check)
+
+-- ---- Decisions
+
+either_as : (b : Bool) (x y : RoleDecision) → (if b then decision_as x else decision_as y) ≡ decision_as (if b then x else y)
+either_as true x y = refl
+either_as false x y = refl
+
+pub decided_alike : (role shown : Role) (tiebreaker contents : ℕ) → attribute_decision (shown_role role) tiebreaker (shown_role shown) contents ≡ decision_as (role_decision role tiebreaker shown contents)
+decided_alike Controlling Controlling tiebreaker contents = either_as (nat_le contents tiebreaker) refuse switch
+decided_alike Controlled Controlled tiebreaker contents = either_as (nat_le contents tiebreaker) switch refuse
+decided_alike Controlling Controlled tiebreaker contents = refl
+decided_alike Controlled Controlling tiebreaker contents = refl

@@ -3,7 +3,14 @@
 use Rattle.std.specs.Prelude.{◌≡◌, ℕ, List, find, Option, Some}
 use Rattle.stun_endpoints.specs.declared.endpoints.Endpoint.{Endpoint}
 use Rattle.ice_machine.specs.declared.messages.Request.{Request}
+use Rattle.ice_machine.specs.declared.roles.Role.{Role}
+use Rattle.ice_machine.specs.declared.roles.Role.TheVariants.{Controlling, Controlled}
+use Rattle.ice_machine.specs.Roles.{RoleDecision, keep, switch, refuse}
 use Rattle.ice_machine.specs.Steps.{at, is_request}
+use Rattle.ice_attrs.specs.declared.roles.Role.{Role as ShownRole}
+use Rattle.ice_attrs.specs.declared.roles.Role.TheVariants.{Controlling as ShownControlling, Controlled as ShownControlled}
+use Rattle.ice_attrs.specs.declared.roles.RoleDecision.{RoleDecision as Decision}
+use Rattle.ice_attrs.specs.declared.roles.RoleDecision.TheVariants.{Keep, Switch, Refuse}
 use Rattle.ice_agent_state.specs.Agents.{output_at}
 use Rattle.ice_agent.specs.Agents.{Agent}
 use Rattle.ice_agent.specs.Receiving.{Reply, event_at, judged, received, reply_text}
@@ -70,3 +77,14 @@ pub record IsCrossing (one other : Side) (one_reply other_reply : Reply) : Type 
   pub other_replies : reply_of other one ≡ Some other_reply
   pub one_waits : IsWaiting one (checked_by one other)
   pub other_waits : IsWaiting other (checked_by other one)
+
+-- ---- The values of `ice_attrs`
+
+abbrev pub shown_role : Role → ShownRole
+shown_role Controlling = ShownControlling
+shown_role Controlled = ShownControlled
+
+abbrev pub decision_as : RoleDecision → Decision
+decision_as keep = Keep
+decision_as switch = Switch
+decision_as refuse = Refuse

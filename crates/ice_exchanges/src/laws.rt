@@ -14,7 +14,7 @@ pub use lasting::{
     runs_are_the_machines,
 };
 pub use meeting::agents_will_meet;
-pub use roles::roles_settle;
+pub use roles::{roles_are_decided_alike, roles_settle};
 pub use sending::{data_is_consented, silence_gets_little, strangers_change_nothing};
 pub use settled::{agent_is_bounded, lost_consent_is_final, selection_is_agreed};
 pub use working::agent_works;

@@ -5,11 +5,13 @@ ghost use Rattle.stun_grammar.specs.declared.integrity_algorithm.IntegrityAlgori
 ghost use Rattle.stun_endpoints.specs.declared.endpoints.Endpoint.{Endpoint};
 ghost use Rattle.ice_machine.specs.declared.messages.Check.{Check};
 ghost use Rattle.ice_machine.specs.Exchanges.{IsSteady};
-ghost use Rattle.ice_machine.specs.Roles.{other_role};
+ghost use Rattle.ice_machine.specs.declared.roles.Role.{Role};
+ghost use Rattle.ice_machine.specs.Roles.{other_role, role_decision};
+ghost use Rattle.ice_attrs.specs.Roles.{role_decision as attribute_decision};
 ghost use Rattle.ice_checks.specs.declared.judged.Judged.{Judged};
 ghost use Rattle.ice_agent.specs.Agents.{Agent};
 ghost use Rattle.ice_agent.specs.Receiving.{Reply, judged, received};
-ghost use Rattle.ice_exchanges.specs.Roles.{Side, IsCrossing, IsExchange, answered_with, checked_by};
+ghost use Rattle.ice_exchanges.specs.Roles.{Side, IsCrossing, IsExchange, answered_with, checked_by, decision_as, shown_role};
 
 use stun_endpoints::sockets_are_of_endpoints;
 
@@ -32,3 +34,10 @@ pub fn roles_settle()
     sockets_are_of_endpoints();
     ice_machine::roles_settle();
 }
+
+/// What an agent does about the role that a check shows is what `ice_attrs::decide_role` returns.
+pub fn roles_are_decided_alike()
+    ensures { (role shown : Role) (tiebreaker contents : ℕ)
+        → attribute_decision (shown_role role) tiebreaker (shown_role shown) contents
+        ≡ decision_as (role_decision role tiebreaker shown contents) }
+{}
