@@ -10,25 +10,25 @@ use Rattle.stun_endpoints.specs.declared.endpoints.Endpoint.{Endpoint}
 use Rattle.stun_endpoints.specs.Conversions.{endpoint_of, is_address, socket_of}
 use Rattle.ice_machine.specs.declared.candidates.Base.{Base}
 use Rattle.ice_machine.specs.declared.messages.Answer.{Answer}
-use Rattle.ice_machine.specs.declared.messages.Answer.TheVariants.{Accepted, Refused as RefusedBy}
+use Rattle.ice_machine.specs.declared.messages.Answer.TheVariants.{Refused as RefusedBy}
 use Rattle.ice_machine.specs.declared.messages.Check.{Check}
 use Rattle.ice_machine.specs.declared.messages.Request.{Request}
 use Rattle.ice_machine.specs.Agents.{Setup, State}
-use Rattle.ice_machine.specs.Events.{Event, checks, responds, Output, asks, answers, data_to, data_from, nothing}
+use Rattle.ice_machine.specs.Events.{checks, Output, asks, answers, data_to, data_from, nothing}
 use Rattle.ice_machine.specs.Exchanges.{Side as Part, IsCrossing as PartsCross, IsExchange as PartsExchange, IsSteady, answered_with as part_answered, checked_by as part_checked, delivered}
 use Rattle.ice_machine.specs.Roles.{RoleDecision, keep, switch, refuse, other_role, role_decision}
 use Rattle.ice_machine.specs.declared.roles.Role.{Role}
 use Rattle.ice_machine.specs.declared.roles.Role.TheVariants.{Controlling, Controlled}
 use Rattle.ice_attrs.specs.Roles.{role_decision as attribute_decision}
-use Rattle.ice_machine.specs.Steps.{Step, at, checked, decides, does_nothing, is_base, is_request, step}
+use Rattle.ice_machine.specs.Steps.{at, checked, decides, does_nothing, is_base, is_request, step}
 use Rattle.ice_agent_state.specs.Agents.{output_at}
 use Rattle.ice_checks.specs.declared.judged.Judged.{Judged}
 use Rattle.ice_checks.specs.declared.judged.Judged.TheVariants.{Checks}
 use Rattle.ice_checks.specs.Judging.{event_of}
 use Rattle.ice_checks.specs.Views.{Logins}
 use Rattle.ice_agent.specs.Agents.{Agent}
-use Rattle.ice_agent.specs.Receiving.{Reply, check_response, event_at, is_awaited, judged, received, received_as, reply_text, signing_by}
-use Rattle.ice_exchanges.specs.Meetings.{IsPaired, bytes_of, reply_by}
+use Rattle.ice_agent.specs.Receiving.{Reply, check_response, is_awaited, judged, received, received_as, signing_by}
+use Rattle.ice_exchanges.specs.Meetings.{reply_by}
 use Rattle.ice_exchanges.specs.Peers.{Knows}
 use Rattle.ice_exchanges.specs.Roles.{IsAsking, IsCrossing, IsExchange, Side, IsWaiting, answered_with, checked_by, datagram_from, decision_as, reply_of, shown_role}
 use Rattle.ice_exchanges.proofs.MeetingLemmas.{arrives_as, response_as}
@@ -54,11 +54,11 @@ any_kept test good (x ∷ xs) e = kept_any test good x xs (any_kept test good xs
 
 found_any : {X : Type 0} (test : X → Bool) (xs : List X) (a : X) → find test xs ≡ Some a → list_any test xs ≡ true
 found_any test [] a e = absurd cc
-found_any test (x ∷ xs) a e = by (test x) refl
+found_any test (x ∷ xs) a e = by (test x) refl (found_any test xs a)
   where
-    by : (b : Bool) → test x ≡ b → list_any test (x ∷ xs) ≡ true
-    by true is = ap (λ (b : Bool). b || list_any test xs) is
-    by false is = ap (λ (b : Bool). b || list_any test xs) is ∙ found_any test xs a (sym (ap (λ (b : Bool). cond b (Some x) (find test xs)) is) ∙ e)
+    by : (b : Bool) → test x ≡ b → (find test xs ≡ Some a → list_any test xs ≡ true) → list_any test (x ∷ xs) ≡ true
+    by true is rest = ap (λ (b : Bool). b || list_any test xs) is
+    by false is rest = ap (λ (b : Bool). b || list_any test xs) is ∙ rest (sym (ap (λ (b : Bool). cond b (Some x) (find test xs)) is) ∙ e)
 
 pub waited : (agent : Agent) (now : ℕ) (r : Request) → find (is_request r.id) (at agent.held.setup now agent.held.state).requests ≡ Some r → is_awaited agent r.id ≡ true
 waited agent now r e = any_kept _ (is_request r.id) agent.held.state.requests (found_any (is_request r.id) (at agent.held.setup now agent.held.state).requests r e)
@@ -116,24 +116,24 @@ part_of side = record {
 
 module _ (sockets : (e : Endpoint) → is_address e.ip ≡ true → endpoint_of (socket_of e) ≡ e) where
   check_is : (own peer : Side) → IsAsking peer own → judged own.agent own.base own.from (datagram_from peer) ≡ Checks (delivered peer.request own.base own.from) Sha1
-  check_is own peer asks = arrives_as sockets peer.agent own.agent peer.request own.base own.from asks.paired asks.fields
+  check_is own peer asking = arrives_as sockets peer.agent own.agent peer.request own.base own.from asking.paired asking.fields
 
   pub checked_is : (own peer : Side) → IsAsking peer own → (checked_by own peer).held.state ≡ (part_checked (part_of own) (part_of peer)).state
-  checked_is own peer asks = ap (λ (j : Judged). (received_as j own.now own.fresh own.base own.from (datagram_from peer) own.agent).held.state) (check_is own peer asks)
+  checked_is own peer asking = ap (λ (j : Judged). (received_as j own.now own.fresh own.base own.from (datagram_from peer) own.agent).held.state) (check_is own peer asking)
 
   reply_is : (own peer : Side) (reply : Reply) → IsAsking peer own → reply_of own peer ≡ Some reply → IsReply own.agent (delivered peer.request own.base own.from) (part_checked (part_of own) (part_of peer)).output reply
-  reply_is own peer reply asks e =
+  reply_is own peer reply asking e =
       let d = datagram_from peer in
       let c = delivered peer.request own.base own.from in
       reply_so own.agent d c (part_checked (part_of own) (part_of peer)).output reply
       (checked_so own.agent.held.setup c (at own.agent.held.setup own.now own.agent.held.state) (find (is_base c.base) own.agent.held.state.bases))
-      (sym (ap (λ (j : Judged). reply_by own.agent d j (output_at own.now own.fresh (event_of own.base own.from d j) own.agent.held)) (check_is own peer asks)) ∙ e)
+      (sym (ap (λ (j : Judged). reply_by own.agent d j (output_at own.now own.fresh (event_of own.base own.from d j) own.agent.held)) (check_is own peer asking)) ∙ e)
 
   -- the response comes back, to the agent as it is then
   answered_is : (own peer : Side) (agent : Agent) (output : Output) (reply : Reply) → IsAsking own peer → agent.logins ≡ own.agent.logins → agent.held.setup ≡ own.agent.held.setup → IsWaiting own agent
       → (is : IsReply peer.agent (delivered own.request peer.base peer.from) output reply) → (answered_with own agent reply).held.state ≡ part_answered (part_of own) agent.held.state is.answer
-  answered_is own peer agent output reply asks logins setup waits is =
-      let event = response_as sockets agent asks.paired.login peer.agent.logins own.request peer.from is.answer (subst (λ (l : Logins). Knows l asks.paired.login peer.agent.logins) (sym logins) asks.paired.knows) asks.fields.id asks.source (waited agent own.later own.request waits) is.code in
+  answered_is own peer agent output reply asking logins setup waits is =
+      let event = response_as sockets agent asking.paired.login peer.agent.logins own.request peer.from is.answer (subst (λ (l : Logins). Knows l asking.paired.login peer.agent.logins) (sym logins) asking.paired.knows) asking.fields.id asking.source (waited agent own.later own.request waits) is.code in
       ap (λ (r : Reply). (answered_with own agent r).held.state) is.reply_is
       ∙ (λ i. (step (setup i) agent.held.state own.later own.anew (event i)).state)
 

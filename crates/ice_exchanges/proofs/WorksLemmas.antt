@@ -24,7 +24,10 @@ use Rattle.ice_exchanges.proofs.RunsLemmas.{held_is}
 -- the route that data goes by
 pub route_is : (p : Pair) (bytes : List ℕ) (result : Option Route) → data_by bytes (Some (route_of p)) ≡ data_by bytes result → result ≡ Some (route_of p)
 route_is p bytes None e = absurd cc
-route_is p bytes (Some route) e = cc
+route_is p bytes (Some route) e =
+    let base : route.base ≡ p.base = cc in
+    let to : route.to ≡ p.remote = cc in
+    λ i. Some (record { base = base i; to = to i })
 
 -- what a poll writes
 pub keeps_busy : (agent : Agent) (now fresh : ℕ) (old new : List ℕ) (result : Result (Option Sending) StunWriteError) (output : Output)
