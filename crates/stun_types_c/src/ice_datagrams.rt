@@ -41,7 +41,7 @@ pub struct CIceReceived {
 pub struct CIceRequest {
     /// Its length; 0: there is none.
     pub length: usize,
-    /// Where it is sent to.
+    /// The address to send it to.
     pub to: Address,
     /// The number of the base that it is sent from.
     pub base: u32,
@@ -51,7 +51,7 @@ pub struct CIceRequest {
 #[repr(C)]
 #[derive(Clone, Copy, Drop)]
 pub struct CIcePath {
-    /// Where it is sent to.
+    /// The address to send it to.
     pub to: Address,
     /// The number of the base that it is sent from.
     pub base: u32,
