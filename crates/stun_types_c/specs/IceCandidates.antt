@@ -1,11 +1,11 @@
 -- The candidates of an ICE agent, as C adds them.
-use Rattle.std.specs.Prelude.{◌≡◌, ℕ, Bool, ◌||◌, Option, None, Some, MatchOption, Result, Ok, Err, option_and_then, ◌==◌, if◌then◌else◌}
+use Rattle.std.specs.Prelude.{◌≡◌, ℕ, Option, None, Some, MatchOption, Result, Ok, Err, ◌==◌, if◌then◌else◌}
 use Rattle.std.specs.List.{list_any}
 use Rattle.std.specs.Option.{option_map}
 use Rattle.stun_endpoints.specs.declared.endpoints.Endpoint.{Endpoint}
 use Rattle.ice_machine.specs.declared.candidates.Base.{Base}
 use Rattle.ice_machine.specs.declared.candidates.Remote.{Remote}
-use Rattle.ice_machine.specs.Events.{Event, gathers, learns, ends}
+use Rattle.ice_machine.specs.Events.{gathers, learns, ends}
 use Rattle.ice_machine.specs.Steps.{has_room, is_base, is_remote}
 use Rattle.ice_agent_state.specs.declared.candidates.AddError.{AddError}
 use Rattle.ice_agent_state.specs.declared.candidates.AddError.TheVariants.{Full, InUse}

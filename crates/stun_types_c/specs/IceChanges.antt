@@ -1,5 +1,5 @@
 -- What an ICE agent has come to, and what has changed, as C sees it.
-use Rattle.std.specs.Prelude.{◌≡◌, ℕ, Bool, true, false, length, Option, None, Some, MatchOption, IsSomeAnd}
+use Rattle.std.specs.Prelude.{◌≡◌, ℕ, Bool, true, false, length, Option, None, MatchOption, IsSomeAnd}
 use Rattle.std.specs.List.{slice_get}
 use Rattle.stun_endpoints.specs.declared.endpoints.Endpoint.{Endpoint}
 use Rattle.stun_endpoints.specs.Conversions.{socket_of}
@@ -10,7 +10,6 @@ use Rattle.ice_machine.specs.declared.roles.Role.{Role}
 use Rattle.ice_machine.specs.declared.roles.Role.TheVariants.{Controlling, Controlled}
 use Rattle.ice_agent_state.specs.declared.changes.Change.{Change}
 use Rattle.ice_agent_state.specs.declared.changes.Change.TheVariants.{Role as RoleIs, ConsentLost, Status as StatusIs, Selected, Discovered}
-use Rattle.ice_agent_state.specs.declared.routing.Route.{Route}
 use Rattle.ice_agent_state.specs.declared.status.Status.{Status}
 use Rattle.ice_agent_state.specs.declared.status.Status.TheVariants.{Checking, Connected, Failed as HasFailed, Lost as IsLost}
 use Rattle.ice_agent_state.specs.Reports.{next_change, marked_by}

@@ -1,5 +1,5 @@
 -- How an ICE agent is made by what C passes.
-use Rattle.std.specs.Prelude.{◌≡◌, ◌⊎◌, ℕ, ◌*◌, Bool, ◌&&◌, List, Option, None, Some, is_some, IsSomeAnd, MatchOption, option_and_then, ◌==◌, if◌then◌else◌}
+use Rattle.std.specs.Prelude.{◌≡◌, ◌⊎◌, ℕ, Bool, ◌&&◌, List, Option, None, Some, is_some, IsSomeAnd, MatchOption, option_and_then, ◌==◌, if◌then◌else◌}
 use Rattle.std.specs.Option.{option_map, option_or}
 use Rattle.std.specs.Str.{is_utf8}
 use Rattle.ice_attrs.specs.Credentials.{is_ufrag, is_password}

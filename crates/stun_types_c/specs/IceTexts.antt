@@ -1,5 +1,5 @@
 -- Candidates as lines of text, as C sees them (RFC 8839, section 5.1).
-use Rattle.std.specs.Prelude.{◌≡◌, ℕ, Bool, List, [], ◌++◌, length, take, drop, min, replicate, Option, None, Some, MatchOption, option_and_then, unwrap_or, nat_le, nat_lt, ◌==◌, if◌then◌else◌}
+use Rattle.std.specs.Prelude.{◌≡◌, ℕ, List, [], ◌++◌, length, take, drop, min, replicate, Option, None, Some, MatchOption, option_and_then, unwrap_or, nat_le, nat_lt, ◌==◌, if◌then◌else◌}
 use Rattle.std.specs.Option.{option_map}
 use Rattle.std.specs.Result.{result_ok}
 use Rattle.std.specs.Str.{is_utf8}

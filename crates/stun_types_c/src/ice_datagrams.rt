@@ -3,7 +3,7 @@
 ghost use Rattle.std.specs.Prelude.{◌≡◌, ℕ, List, Some, MatchOption};
 ghost use Rattle.ice_machine.specs.Events.{polls, sends};
 ghost use Rattle.ice_agent.specs.Agents.{passes};
-ghost use Rattle.stun_types_c.specs.IceCalls.{HoldsRequest, HoldsRoute, IsPath, IsReceived, IsWritten, PollsAgent, ReceivesInC, RoutesData, RoutesIn, ShowsWake, TakesDatagram, WritesInC, no_path, no_received, no_request, received_in_c};
+ghost use Rattle.stun_types_c.specs.IceCalls.{HoldsRequest, HoldsRoute, IsPath, IsReceived, IsWritten, PollsAgent, PollsIn, ReceivesInC, RoutesData, RoutesIn, ShowsWake, TakesDatagram, WritesInC, no_path, no_received, no_request, received_in_c};
 ghost use Rattle.stun_types_c.specs.IceHandles.{held_agent};
 ghost use Rattle.stun_types_c.specs.IceMaking.{with_agent};
 
@@ -220,6 +220,25 @@ fn poll(
     written_in_c(written, request)
 }
 
+/// Writes the request that is to be sent now, and finds the moment of the next poll.
+fn poll_on(
+    alloc: Global,
+    core: &mut IceCore,
+    now: u64,
+    id: TransactionId,
+    out: &mut [u8],
+    request: &mut CIceRequest,
+    wake: &mut u64,
+) -> CResult
+    ensures { PollsIn core.old now id result
+        (record { core = Some core.old; slice = out.old; request = request.old; wake = wake.old })
+        (record { core = Some core.new; slice = out.new; request = request.new; wake = wake.new }) }
+{
+    let result = poll(alloc, core, now, id, out, request);
+    *wake = wake_of(core);
+    result
+}
+
 /// Writes the request that is to be sent now, and reports the moment of the next poll.
 #[unsafe(no_mangle)]
 pub extern "C" fn stun_types_ice_poll(
@@ -240,8 +259,7 @@ pub extern "C" fn stun_types_ice_poll(
         return plain(codes::BAD_ARGUMENT);
     };
     let id = TransactionId::from_bytes(&id.bytes);
-    let result = poll(alloc, &mut core, now, id, out, request);
-    *wake = wake_of(&core);
+    let result = poll_on(alloc, &mut core, now, id, out, request, wake);
     put(agent, core);
     result
 }
