@@ -13,6 +13,12 @@ use stun_endpoints::sockets_are_of_endpoints;
 /// The premises: each has the other's credentials; one of them tries the way, while the other may not know it, or
 /// may have failed there; both start in any roles with any tiebreakers; nothing comes back on their other pairs;
 /// all datagrams of the first rounds may be lost; and datagrams that aren't the peer's may come at any time.
+///
+/// It doesn't say which pair both select if several ways work, nor speak of several components at once, of datagrams
+/// that cross or take longer than a round, or of a way that works for a time. In a network with delays there are the
+/// laws of one agent instead, each by itself: a check settles the roles (`roles_settle`), triggers a check, and its
+/// pair becomes valid (`checks_are_followed`), is nominated (`nominations_follow`), and keeps the peer's consent
+/// (`consent_lasts`).
 pub fn agents_will_meet()
     ensures { (m : Meeting) (both : Both) (count due tried wait most j n : ℕ) → IsMeeting m both
         → AreStarting (in_machines m both) count due tried most (machines both)
