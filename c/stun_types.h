@@ -1724,16 +1724,15 @@ bool stun_types_allocation_attempt_next(stun_types_allocation_attempt *attempt,
 /* An ICE agent without sockets and without a clock, on the heap (RFC 8445; candidates may come at any time,
    RFC 8838). It checks the pairs of its bases and of the peer's candidates, answers the peer's checks,
    nominates as the controlling agent, and keeps the peer's consent (RFC 7675). It begins as
-   STUN_TYPES_ICE_INIT, is made by stun_types_ice_new, which frees what it held before, and ended by
-   stun_types_ice_free. C neither reads nor writes nor copies its fields; whether a struct holds an agent is
-   seen as with a key. Each call has it alone.
-   now is a monotonic clock of the caller's, in nanoseconds since any moment that stays the same; a clock
-   that steps back counts as stopped.
-   An event loop passes each datagram of its bases to stun_types_ice_datagram, and sends the response that
-   it writes, if there is one. After each call that takes now, and at *wake, it calls stun_types_ice_poll and
-   sends what that writes, until request.length is 0, and then stun_types_ice_changes until that returns
-   false. Data goes where stun_types_ice_route says. A restart (section 9) is a new agent, with other
-   credentials. */
+   STUN_TYPES_ICE_INIT; stun_types_ice_new makes it, and frees what it held before; stun_types_ice_free ends
+   it. C neither reads, writes nor copies its fields; whether a struct holds an agent is tested as with a
+   key. No two calls may use it at once.
+   now is the caller's monotonic clock, in nanoseconds since any fixed moment; if it steps back, it counts as
+   stopped.
+   An event loop passes each datagram of its bases to stun_types_ice_datagram, and sends the response, if
+   there is one. After each call that takes now, and at *wake, it calls stun_types_ice_poll and sends what
+   that writes, until request.length is 0, and then stun_types_ice_changes until that returns false. Data
+   goes where stun_types_ice_route says. A restart (section 9) is a second agent, with other credentials. */
 typedef struct {
     void *at;
     uint64_t held;
@@ -1751,13 +1750,13 @@ typedef STUN_TYPES_ENUM(stun_types_ice_role) {
     STUN_TYPES_ICE_CONTROLLED = 2
 } stun_types_ice_role;
 
-/* What an agent is made by. Zeros, but for the texts, the tiebreaker and the role, are what RFC 8445
-   recommends. */
+/* The settings of an agent. At 0, a number has the default that its comment names; the defaults of pairs, ta
+   and rto are RFC 8445's. */
 typedef struct {
-    const void *ufrag;         /* the text of its username fragment: 4 to 256 letters, digits, + and /, of
-                                  24 random bits at least (section 5.3) */
+    const void *ufrag;         /* the text of its username fragment: 4 to 256 letters, digits, + and /, with
+                                  at least 24 random bits (section 5.3) */
     size_t ufrag_length;
-    const void *password;      /* the text of its password: 22 to 256 of these, of 128 random bits */
+    const void *password;      /* the text of its password: 22 to 256 of these, with 128 random bits */
     size_t password_length;
     const void *software;      /* the text of the SOFTWARE of checks */
     size_t software_length;    /* 0: they have none */
@@ -1765,26 +1764,25 @@ typedef struct {
     stun_types_ice_role role;
     uint32_t pairs;            /* the most pairs, at most 4,096; 0: 100 */
     uint32_t candidates;       /* the most bases, and the most candidates of the peer, at most 4,096; 0: 32 */
-    uint32_t requests;         /* the most requests that a response is waited for, at most 4,096; 0: 200 */
+    uint32_t requests;         /* the most requests that wait for a response, at most 4,096; 0: 200 */
     uint32_t ta;               /* the time between two requests, in milliseconds; below 5 it is 5; 0: 50 */
     uint32_t rto;              /* the wait after the first request of a check, in milliseconds, which doubles;
                                   below 500 it is 500; 0: 500 */
-    uint32_t patience;         /* for how many milliseconds a controlling agent waits for a pair of greater
+    uint32_t patience;         /* how many milliseconds a controlling agent waits for a pair of higher
                                   priority after one has succeeded; 0: 200 */
     uint32_t tries;            /* the most requests of a check without a response, at most 32; 0: 5 */
     uint64_t reserved;
 } stun_types_ice_settings;
 
-/* Makes an agent with no candidates. It keeps copies of all that it is given, and takes all the memory that
-   it ever keeps but for the peer's credentials.
-   BAD_ARGUMENT: a number of the settings, or no byte of password. INVALID_DATA: ufrag or password is none.
-   INVALID_DATA, TOO_LARGE: the software isn't UTF-8, or has more than 763 bytes. Allocates: OUT_OF_MEMORY.
-   If the call fails, the agent stays as it was. */
+/* Makes an agent with no candidates. It copies the settings, and allocates all the memory that the agent
+   uses, except for the peer's credentials.
+   BAD_ARGUMENT: a number of the settings is out of range, or password is empty. INVALID_DATA: ufrag or
+   password isn't one. INVALID_DATA, TOO_LARGE: the software isn't UTF-8, or has more than 763 bytes.
+   Allocates: OUT_OF_MEMORY. If the call fails, the agent stays as it was. */
 STUN_TYPES_NODISCARD STUN_TYPES_NONNULL((1, 2))
 stun_types_answer stun_types_ice_new(stun_types_ice *agent, const stun_types_ice_settings *settings);
 
-/* Frees these agents, one after the other in memory, overwriting their keys, and leaves STUN_TYPES_ICE_INIT
-   for each. */
+/* Frees the agents of an array, overwrites their keys, and leaves STUN_TYPES_ICE_INIT for each. */
 void stun_types_ices_free(stun_types_ice *agents, size_t count);
 
 /* The same with one agent. With STUN_TYPES_ICE_INIT, and with NULL, it does nothing. */
@@ -1792,28 +1790,28 @@ static inline void stun_types_ice_free(stun_types_ice *agent) {
     stun_types_ices_free(agent, agent ? 1 : 0);
 }
 
-/* The username fragment and the password that the peer has signalled. Before this call checks of the peer
-   are answered, and none is sent.
-   BAD_ARGUMENT: there is no agent, or no byte of password. INVALID_DATA: ufrag or password is none. EXISTS:
-   the agent has the peer's credentials, and keeps those. Allocates: OUT_OF_MEMORY. */
+/* Sets the username fragment and the password that the peer has signalled. Before this call the agent
+   answers the peer's checks, and sends none.
+   BAD_ARGUMENT: there is no agent, or password is empty. INVALID_DATA: ufrag or password isn't one. EXISTS:
+   the agent already has the peer's credentials, and keeps them. Allocates: OUT_OF_MEMORY. */
 STUN_TYPES_NODISCARD STUN_TYPES_NONNULL((1))
 stun_types_answer stun_types_ice_set_peer(stun_types_ice *agent, uint64_t now, const void *ufrag,
                                           size_t ufrag_length, const void *password, size_t password_length);
 
 /* What an agent sends from and receives at (section 4): a socket, or an allocation at a TURN server. A
-   server-reflexive candidate is signalled, and is no base: what it would send goes from its base. */
+   server-reflexive candidate is signalled, but isn't a base: its base sends for it. */
 typedef struct {
     uint32_t number;             /* of the caller's choice */
     uint32_t foundation;         /* of its candidate, a number of the caller's choice for each foundation */
     uint32_t priority;           /* of its candidate: 2^24 * type preference + 2^8 * local preference + 256
-                                    - component (section 5.1.2.1). Type preferences are 126 for a host
-                                    candidate, 110 for a peer-reflexive one, 100, and 0 for a relayed one */
+                                    - component (section 5.1.2.1). Type preferences are 126 (host), 110
+                                    (peer-reflexive), 100 (server-reflexive) and 0 (relayed) */
     uint32_t reflexive_priority; /* of the peer-reflexive candidates that its checks discover: the same with
                                     a type preference of 110 (section 7.1.1) */
-    uint16_t component;          /* a number for each component of each data stream; only candidates of one
-                                    component are paired */
+    uint16_t component;          /* a number for each component of each data stream; only candidates of the
+                                    same component are paired */
     uint16_t family;             /* of its address: 4 or 6 */
-    uint16_t link_local;         /* not 0: it has an IPv6 link-local address, and is paired with such alone */
+    uint16_t link_local;         /* not 0: its address is IPv6 link-local; it is paired with such alone */
     uint16_t reserved;
 } stun_types_ice_base;
 
@@ -1838,8 +1836,8 @@ STUN_TYPES_NODISCARD STUN_TYPES_NONNULL((1, 3))
 stun_types_answer stun_types_ice_add_remote(stun_types_ice *agent, uint64_t now,
                                             const stun_types_ice_remote *remote);
 
-/* Notes the address of a candidate that the caller signals, host, server-reflexive or relayed, so that it
-   isn't reported as discovered. The same codes. */
+/* Notes the address of a candidate that the caller signals, so that it isn't reported as discovered.
+   BAD_ARGUMENT, FULL and EXISTS as above. It allocates nothing. */
 STUN_TYPES_NODISCARD STUN_TYPES_NONNULL((1, 2))
 stun_types_answer stun_types_ice_add_address(stun_types_ice *agent, const stun_types_address *address);
 
@@ -1849,12 +1847,12 @@ STUN_TYPES_NODISCARD STUN_TYPES_NONNULL((1))
 stun_types_answer stun_types_ice_end_candidates(stun_types_ice *agent, uint64_t now);
 
 typedef STUN_TYPES_ENUM(stun_types_ice_kind) {
-    STUN_TYPES_ICE_NOTHING = 0,  /* it was the agent's, or nobody's */
+    STUN_TYPES_ICE_NOTHING = 0,  /* there is nothing to do */
     STUN_TYPES_ICE_RESPONSE = 1, /* send out[0 .. length) from the same base to where it came from */
     STUN_TYPES_ICE_DATA = 2      /* the datagram is the peer's data, of component */
 } stun_types_ice_kind;
 
-/* What comes of a datagram. The fields that kind doesn't name are 0. */
+/* What to do with a datagram. The fields that kind doesn't name are 0. */
 typedef struct {
     size_t length;
     stun_types_ice_kind kind;
@@ -1862,30 +1860,30 @@ typedef struct {
     uint16_t reserved;
 } stun_types_ice_received;
 
-/* Takes a datagram that came to the base of this number, from an address; what comes from a TURN server is
-   unwrapped first. random: 64 random bits, new at each call: the next tiebreaker if the peer answers a check
-   with 487. 128 bytes have room for any response, but for a 420 that lists more than 20 types.
+/* Takes a datagram that came to the base of this number, from an address. Unwrap what comes from a TURN
+   server first. random: 64 random bits, new at each call: the next tiebreaker if the peer answers a check
+   with 487. Any response fits into 128 bytes, except a 420 that lists more than 16 types.
    BAD_ARGUMENT, and nothing has changed: there is no agent, or the family of from is neither 4 nor 6.
-   TOO_SMALL: out has no room for the response; the datagram counts, and the response is lost. TOO_LARGE: a
-   420 would list more types than a message has room for. It allocates nothing. */
+   TOO_SMALL: out has no room for the response; the datagram counts as received, and the response as lost.
+   TOO_LARGE: a 420 would list more types than a message has room for. It allocates nothing. */
 STUN_TYPES_NODISCARD STUN_TYPES_NONNULL((1, 4, 10))
 stun_types_answer stun_types_ice_datagram(stun_types_ice *agent, uint64_t now, uint32_t base,
                                           const stun_types_address *from, const uint8_t *datagram,
                                           size_t length, uint64_t random, uint8_t *out, size_t size,
                                           stun_types_ice_received *received);
 
-/* A request that is to be sent: out[0 .. length), from base to to. length 0: there is none. */
+/* A request to send: out[0 .. length), from a base to an address. length 0: there is none. */
 typedef struct {
     size_t length;
     stun_types_address to;
     uint32_t base;
 } stun_types_ice_request;
 
-/* Writes the request that is to be sent now. Nothing is to be sent before *wake, unless another call comes
-   first; UINT64_MAX: never. id: random, new at each call; it is the transaction ID. 700 bytes have room for
-   any request without SOFTWARE.
-   TOO_SMALL: the request counts as sent, and lost. BAD_ARGUMENT, and *wake stays: there is no agent. It
-   allocates nothing. */
+/* Writes the request that is due now. Before *wake none is due, unless another call comes first; UINT64_MAX:
+   never. id: the transaction ID, random and new at each call. Any request without SOFTWARE fits into 700
+   bytes.
+   BAD_ARGUMENT, and *wake stays: there is no agent. TOO_SMALL: out has no room; the request counts as sent
+   and lost. It allocates nothing. */
 STUN_TYPES_NODISCARD STUN_TYPES_NONNULL((1, 3, 6, 7))
 stun_types_answer stun_types_ice_poll(stun_types_ice *agent, uint64_t now, const stun_types_id *id,
                                       uint8_t *out, size_t size, stun_types_ice_request *request,
@@ -1897,9 +1895,9 @@ typedef struct {
     uint32_t base;
 } stun_types_ice_path;
 
-/* Where data of a component goes now: true. False, and the path is zeros: no pair is selected, or the peer
+/* Returns true, and where data of a component goes now. False, and zeros: no pair is selected, or the peer
    hasn't consented within the last 30 seconds (RFC 7675, section 5.1), or there is no agent; data must not
-   be sent. Ask for each datagram, or for each batch. It allocates nothing. */
+   be sent. Call it for each datagram, or for each batch. It allocates nothing. */
 STUN_TYPES_NODISCARD STUN_TYPES_NONNULL((1, 4))
 bool stun_types_ice_route(stun_types_ice *agent, uint64_t now, uint16_t component, stun_types_ice_path *path);
 
@@ -1910,7 +1908,7 @@ typedef STUN_TYPES_ENUM(stun_types_ice_progress) {
     STUN_TYPES_ICE_LOST = 4       /* the peer's consent has expired, and no pair is selected: restart */
 } stun_types_ice_progress;
 
-/* What a component has come to. */
+/* The status of a component. */
 typedef struct {
     stun_types_ice_path path;         /* CONNECTED: of the selected pair; otherwise zeros */
     stun_types_ice_progress progress;
@@ -1918,7 +1916,7 @@ typedef struct {
     size_t pairs;                     /* how many pairs the agent has, of all components */
 } stun_types_ice_standing;
 
-/* What a component has come to at the latest moment of a call: true. False, and all zeros: there is no
+/* Returns true, and the status of a component at the latest now of a call. False, and all zeros: there is no
    agent. It allocates nothing. */
 STUN_TYPES_NODISCARD STUN_TYPES_NONNULL((1, 3))
 bool stun_types_ice_status(stun_types_ice *agent, uint16_t component, stun_types_ice_standing *standing);
@@ -1947,7 +1945,7 @@ typedef struct {
     uint16_t nominated;       /* 1: it is nominated */
 } stun_types_ice_checked;
 
-/* The pair of this number, from 0, the newest first, as it is at the latest moment of a call: true. False,
+/* Returns true, and the pair of this number, from 0, the newest first, at the latest now of a call. False,
    and all zeros: there are no more, or there is no agent. It allocates nothing. */
 STUN_TYPES_NODISCARD STUN_TYPES_NONNULL((1, 3))
 bool stun_types_ice_pair(stun_types_ice *agent, uint32_t number, stun_types_ice_checked *pair);
@@ -1955,11 +1953,10 @@ bool stun_types_ice_pair(stun_types_ice *agent, uint32_t number, stun_types_ice_
 typedef STUN_TYPES_ENUM(stun_types_ice_change_kind) {
     STUN_TYPES_ICE_UNCHANGED = 0,
     STUN_TYPES_ICE_ROLE = 1,         /* the agent has this role now */
-    STUN_TYPES_ICE_CONSENT_LOST = 2, /* the peer's consent for a pair of component, of base and address, has
-                                        expired: nothing is sent by it any more */
-    STUN_TYPES_ICE_PROGRESS = 3,     /* component has this progress now; CONNECTED: by base and address */
-    STUN_TYPES_ICE_SELECTED = 4,     /* component, which stays connected, has another pair, of base and
-                                        address */
+    STUN_TYPES_ICE_CONSENT_LOST = 2, /* the peer's consent for the pair of base and address, of component, has
+                                        expired: nothing more is sent on it */
+    STUN_TYPES_ICE_PROGRESS = 3,     /* component has this progress now; CONNECTED: from base to address */
+    STUN_TYPES_ICE_SELECTED = 4,     /* component stays connected, by another pair, from base to address */
     STUN_TYPES_ICE_DISCOVERED = 5    /* the peer sees base at this address, which no candidate has: a
                                         peer-reflexive candidate of this agent (section 7.2.5.3.1) */
 } stun_types_ice_change_kind;
@@ -1975,8 +1972,8 @@ typedef struct {
     uint16_t reserved;
 } stun_types_ice_change;
 
-/* A difference between what the agent is and what the calls before have reported, if there is one; true
-   then, and it counts as reported. Of changes that undo each other between two calls nothing is reported.
+/* Returns true, and a difference between the agent and what earlier calls have reported, which counts as
+   reported then. Changes that undo each other between two calls aren't reported.
    False, and all zeros: there is none, or there is no agent. It allocates nothing. */
 STUN_TYPES_NODISCARD STUN_TYPES_NONNULL((1, 2))
 bool stun_types_ice_changes(stun_types_ice *agent, stun_types_ice_change *change);
@@ -1998,24 +1995,24 @@ typedef struct {
     uint16_t foundation_length;     /* how many they are */
     uint16_t component;             /* 1 to 256 */
     uint32_t priority;              /* 1 to 2^31 - 1 */
-    stun_types_address address;     /* family 0: the name of a host, as the .local names of browsers, the
+    stun_types_address address;     /* family 0: a host name, such as a browser's .local name, which is the
                                        fifth word of the line, at this port */
-    stun_types_address related;     /* family 0: none, or the name of a host */
+    stun_types_address related;     /* family 0: none, or a host name */
     stun_types_transport transport; /* 0: another one, to be ignored */
     stun_types_ice_candidate_kind kind;
 } stun_types_ice_candidate;
 
-/* Reads a candidate from the line of its attribute, with or without a= before it, and without the end of
-   the line. What follows the related address, as generation or ufrag, is checked, and not reported.
-   INVALID_DATA: the line is none. */
+/* Reads a candidate from the line of its attribute, with or without a= before it, and without a line break.
+   What follows the related address, such as generation or ufrag, is checked, but not reported.
+   INVALID_DATA: the line isn't a candidate's. */
 STUN_TYPES_NODISCARD STUN_TYPES_NONNULL((3))
 stun_types_answer stun_types_ice_candidate_read(const void *line, size_t length,
                                                 stun_types_ice_candidate *candidate);
 
 /* Writes the line of a candidate's attribute, without a=, at the start of text, which has size bytes.
-   BAD_ARGUMENT: a field of the candidate, of a family other than 4 and 6 in address, and other than these
-   and 0 in related. TOO_SMALL: text has the first bytes of it, and *written is size; 200 bytes have room
-   for any. */
+   BAD_ARGUMENT: a field is out of range, transport or kind is 0, the family of address is neither 4 nor 6,
+   or that of related none of 0, 4 and 6. TOO_SMALL: text has the first size bytes of the line, and *written
+   is size; any line fits into 200 bytes. */
 STUN_TYPES_NODISCARD STUN_TYPES_NONNULL((1, 4))
 stun_types_answer stun_types_ice_candidate_write(const stun_types_ice_candidate *candidate, char *text,
                                                  size_t size, size_t *written);
