@@ -248,8 +248,9 @@ impl Agent {
     /// Takes a datagram that has arrived at a base, from an address. The datagram is neither copied nor changed.
     ///
     /// - A check of the peer is answered (RFC 8445, section 7.3), and so is a Binding request that isn't one, by
-    ///   an error response of at most three times its length: [`Received::Response`]. `out` has room for it: a
-    ///   success response has at most 88 bytes, and a 420 has 88 and four for each two types that it lists.
+    ///   an error response of at most three times its length: [`Received::Response`]. Make room for it in `out`:
+    ///   a success response to a check that is signed with SHA-1 has at most 88 bytes, and a 420 has 84, and four
+    ///   for each two types that it lists. With SHA-256 each has twelve more.
     /// - A response to a check changes its pair (section 7.2.5). `random` is the next tiebreaker if it is a 487:
     ///   a random number that no other call has.
     /// - Anything else that is no STUN message with a FINGERPRINT is the peer's data, if a check of the peer came

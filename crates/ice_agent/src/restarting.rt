@@ -20,9 +20,8 @@ use stun_types::message::{StunWriteError, TransactionId};
 
 /// The agents of a session that may be restarted (RFC 8445, section 9).
 ///
-/// A restart makes a second agent, with new credentials of both sides, over the same bases, and with the role of the
-/// first one. Until it has selected its pairs, the older one keeps its own, with the peer's consent, so that data
-/// goes on. Then the older one is dropped.
+/// A restart adds a second agent over the same bases, with new credentials of both sides. The older one keeps its
+/// pairs and the peer's consent, and carries data, until the newer one has selected its pairs.
 ///
 /// Candidates, the peer's credentials, statuses and changes are those of each agent.
 ///
@@ -49,8 +48,8 @@ use stun_types::message::{StunWriteError, TransactionId};
 pub struct Session {
     /// The agent of the latest restart.
     pub newer: Agent,
-    /// The agent before it, until the newer one has a selected pair of each component of which this one has
-    /// one.
+    /// The agent that carries data since before the restart. [`Session::poll`] drops it once the newer one has a
+    /// selected pair of each component of which this one has one.
     pub older: Option<Agent>,
 }
 
@@ -194,8 +193,8 @@ impl Session {
         }
     }
 
-    /// Restarts with a new agent, whose role is that of the agent before it (section 6.1.1). If the restart before
-    /// isn't over, its agent is dropped, and data goes on by the pairs of the older one.
+    /// Restarts with a new agent, which the caller makes with the role of the agent before it (section 6.1.1). If
+    /// the restart before isn't over, its agent is dropped, and data goes on by the pairs of the older one.
     pub fn restart(self, agent: Agent) -> Self
         ensures { result ≡ restarts.restarted agent self }
     {
@@ -211,8 +210,9 @@ impl Session {
     ///
     /// During a restart a message is taken by the agent that it is for: a request by the one whose fragment its
     /// USERNAME begins with, and whose password it is signed by; a response by the one that waits for its
-    /// transaction ID, if it is signed by that one's peer. One that is for neither is taken by the newer agent, so
-    /// that a request gets its error response. Data comes to both: it is the peer's if either of them shows it.
+    /// transaction ID, if it is signed by that one's peer. One that is for both, or for neither, is taken by the
+    /// newer agent, so that a request gets its error response. Data is passed to both: it is the peer's if either
+    /// accepts it.
     ///
     /// # Errors
     ///
@@ -250,8 +250,7 @@ impl Session {
         }
     }
 
-    /// Drops the older agent if the newer one has a selected pair of each component of which the older one has
-    /// one.
+    /// Drops the older agent if the restart is over.
     fn relieve(&mut self)
         ensures { self.new ≡ restarts.relieved self.old }
     {
@@ -264,10 +263,9 @@ impl Session {
         }
     }
 
-    /// Drops the older agent if the newer one has a selected pair of each component of which the older one has
-    /// one. Then writes the request that is to be sent now, as [`Agent::poll`] of the newer agent, and if that
-    /// sends none, of the older one. Each of them keeps its own pace, so that two requests may be sent in the time
-    /// of one.
+    /// Drops the older agent if the restart is over. Then writes the request that is to be sent now, as
+    /// [`Agent::poll`] of the newer agent, and if that sends none, of the older one. Each of them keeps its own
+    /// pace, so that two requests may be sent within one Ta.
     ///
     /// # Errors
     ///

@@ -77,7 +77,7 @@ impl Agent {
     ///
     /// `TooSmall { expected, actual }` if `out` has no room for the request: its length, and that of `out`, which
     /// stays as it was. The request counts as sent, and lost. With fragments of at most 32 characters and without
-    /// a SOFTWARE none is longer than 144 bytes.
+    /// a SOFTWARE none is longer than 148 bytes.
     pub fn poll(
         &mut self,
         alloc: Global,

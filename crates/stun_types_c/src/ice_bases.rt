@@ -22,7 +22,7 @@ use stun_endpoints::Endpoint;
 #[repr(C)]
 #[derive(Clone, Copy, Drop)]
 pub struct CIceBase {
-    /// The caller's number of it.
+    /// The caller's number for it.
     pub number: u32,
     /// The number of its candidate's foundation.
     pub foundation: u32,
@@ -137,7 +137,7 @@ fn add_address(core: &mut IceCore, address: Endpoint) -> CResult
     added_result(core.agent.add_address(address))
 }
 
-/// Lets no more candidates follow.
+/// Ends the candidates.
 fn end_candidates(core: &mut IceCore, now: u64)
     ensures { core.new ≡ with_agent (passes now 0 ends core.old.agent) core.old }
 {
@@ -186,7 +186,7 @@ pub extern "C" fn stun_types_ice_add_remote(
     result
 }
 
-/// Notes an address of a candidate of the agent, which isn't reported as discovered.
+/// Notes an address of a candidate of the agent, so that it isn't reported as discovered.
 #[unsafe(no_mangle)]
 pub extern "C" fn stun_types_ice_add_address(
     alloc: Global,

@@ -1,4 +1,4 @@
-//! What an ICE agent has come to, and what has changed.
+//! The status of an ICE agent, and what has changed.
 
 ghost use Rattle.std.specs.Prelude.{◌≡◌};
 ghost use Rattle.stun_types_c.specs.IceChanges.{HoldsPair, HoldsPairAt, HoldsPath, HoldsStanding, IsAbout, IsChange, IsProgress, ReportsChange, ReportsIn, ShowsPair, ShowsStanding, is_there, no_change, no_pair, progress_number, role_number, state_number};
@@ -34,7 +34,7 @@ pub struct CIceStanding {
 #[repr(C)]
 #[derive(Clone, Copy, Drop)]
 pub struct CIcePair {
-    /// When the peer's consent expires, if the pair has succeeded.
+    /// When the peer's consent expires, if the pair has succeeded; otherwise 0.
     pub until: u64,
     /// The address that it sends to.
     pub remote: Address,
@@ -64,7 +64,7 @@ pub struct CIceChange {
     pub address: Address,
     /// The number of a base.
     pub base: u32,
-    /// Which of the fields it is about.
+    /// What has changed.
     pub kind: u32,
     /// The number of the component's progress.
     pub progress: u32,
@@ -76,7 +76,7 @@ pub struct CIceChange {
     pub reserved: u16,
 }
 
-/// There is no agent.
+/// The standing if there is no agent.
 const NO_STANDING: CIceStanding = CIceStanding {
     path: NO_PATH,
     progress: 0,
@@ -84,7 +84,7 @@ const NO_STANDING: CIceStanding = CIceStanding {
     pairs: 0,
 };
 
-/// There is no pair.
+/// The pair if there is none.
 const NO_PAIR: CIcePair = CIcePair {
     until: 0,
     remote: NOWHERE,
@@ -314,7 +314,7 @@ fn next_of(core: &mut IceCore, change: &mut CIceChange) -> bool
     }
 }
 
-/// What has changed of an agent since the last call; false if nothing has.
+/// A difference between the agent and what earlier calls have reported; false if there is none.
 #[unsafe(no_mangle)]
 pub extern "C" fn stun_types_ice_changes(
     alloc: Global,

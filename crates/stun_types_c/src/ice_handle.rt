@@ -14,8 +14,8 @@ const HELD: u64 = 0x7374_756E_6963_6573;
 /// An ICE agent on the heap, or none: in C `struct { void *at; uint64_t held; }`, 16 bytes. It holds an
 /// agent only if `held` is [`HELD`]; `{ NULL, 0 }` holds none.
 ///
-/// C has to keep right what [`KeyHandle`](crate::KeyHandle) says of a key; each call has the handle
-/// alone.
+/// C has to keep right what [`KeyHandle`](crate::KeyHandle) says of a key; no two calls may use a handle at
+/// once.
 #[repr(C)]
 pub struct CIce {
     pub(crate) place: IcePlace,

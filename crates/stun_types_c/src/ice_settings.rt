@@ -93,7 +93,7 @@ pub(crate) fn role_of(number: u32) -> Option<Role>
     }
 }
 
-/// A number of things that are kept.
+/// The bound of a list; 0 is its default.
 fn count_of(usual: u32, number: u32) -> Option<u32>
     ensures { result ≡ number_named 4096 usual number }
 {

@@ -21,9 +21,9 @@ use stun_types::write_text;
 #[repr(C)]
 #[derive(Clone, Copy, Drop)]
 pub struct CIceCandidate {
-    /// The letters of its foundation, and zeros after them.
+    /// The characters of its foundation, and zeros after them.
     pub foundation: [u8; 32],
-    /// How many letters those are.
+    /// How many characters those are.
     pub foundation_length: u16,
     /// The component.
     pub component: u16,
@@ -108,7 +108,7 @@ fn related_in_c(at: &Option<Place<'_>>, port: Option<u16>) -> Address
     }
 }
 
-/// The letters of a foundation, and zeros.
+/// The characters of a foundation, and zeros.
 fn foundation_in_c(text: &str) -> [u8; 32]
     ensures { result ≡ lettered text.now }
 {
@@ -188,7 +188,7 @@ fn related_of(address: &Address) -> Option<Option<IpAddr>>
     Some(Some(ip))
 }
 
-/// A related address and its port.
+/// A related address.
 fn related_place(related: Option<IpAddr>) -> Option<Place<'static>>
     ensures { option_map place result ≡ option_map ip related }
 {
@@ -198,6 +198,7 @@ fn related_place(related: Option<IpAddr>) -> Option<Place<'static>>
     }
 }
 
+/// The port of a related address.
 fn related_port(related: Option<IpAddr>, port: u16) -> Option<u16>
     ensures { result ≡ option_map (λ a. port) related }
 {

@@ -8,6 +8,7 @@ ghost use Rattle.stun_types_c.specs.Attributes.{in_c};
 ghost use Rattle.stun_types_c.specs.Challenges.{in_c as asked_in_c, StandsWhereReported};
 ghost use Rattle.stun_types_c.specs.Values.{value_of};
 ghost use Rattle.stun_types_c.specs.contracts.allocation_handle.CAllocation.{the_row as client_row};
+ghost use Rattle.stun_types_c.specs.contracts.ice_handle.CIce.{the_row as agent_row};
 ghost use Rattle.stun_types_c.specs.contracts.key_handle.KeyHandle.{the_row as key_row};
 ghost use Rattle.stun_types_c.specs.contracts.shared_key.SharedKey.{the_row as shared_row};
 ghost use Rattle.stun_types_c.specs.contracts.turn_handle.CTurn.{the_row as turn_row};
@@ -45,4 +46,9 @@ pub fn server_may_go_to_another_thread()
 /// A law: the handle of a client may go to another thread, if a lock or a join orders what the two do with it.
 pub fn client_may_go_to_another_thread()
     ensures { IsSend client_row }
+{}
+
+/// A law: the handle of an agent may go to another thread, if a lock or a join orders what the two do with it.
+pub fn agent_may_go_to_another_thread()
+    ensures { IsSend agent_row }
 {}

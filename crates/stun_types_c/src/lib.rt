@@ -150,6 +150,7 @@ pub use keys::stun_types_key_short_term;
 pub use keys::stun_types_keys_free;
 pub use keys::stun_types_userhash;
 pub use known_types::stun_types_known_types;
+pub use laws::agent_may_go_to_another_thread;
 pub use laws::asked_texts_stand_where_they_are_reported;
 pub use laws::client_may_go_to_another_thread;
 pub use laws::found_value_stands_where_it_is_reported;

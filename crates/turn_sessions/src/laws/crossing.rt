@@ -32,10 +32,10 @@ use turn_server::datagrams_are_warranted;
 /// of (`turn_client::will_reach`), and the bytes by which a server gives it a peer's data are that event at the
 /// client.
 ///
-/// So whatever was called and came: what a client sends to a peer, whenever it does, a server sends to that
-/// peer, exactly, from the client's relayed address, for the bytes that the client writes. A punctual client sends
-/// whatever its user sends to a peer that the server has permitted. The premises are those of `will_reach`, of
-/// a server to which these datagrams came.
+/// So whatever was called and came: the bytes that a client writes to send data to a peer make the server send
+/// exactly that data to that peer, from the client's relayed address. A punctual client sends whatever its user
+/// sends to a peer that the server has permitted. The premises are those of `will_reach`, for a server that received
+/// these datagrams. Of the direction back it is the single datagram alone.
 pub fn data_crosses()
     ensures sent { (last_channel : ℕ) (sets_df : Bool) (site : Site) (transport : TransportType)
         (tuple : FiveTuple) (h : OuterState) (numbers : Families ℕ) (output : Output) (d : List ℕ)

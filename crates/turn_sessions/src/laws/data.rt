@@ -15,9 +15,9 @@ ghost use Rattle.turn_sessions.specs.Sides.{Fits, IsChannel, IsTransport, IsTran
 
 use stun_endpoints::sockets_are_of_endpoints;
 
-/// Data that a client writes for a peer, the server reads as data for this very peer, exactly, without
+/// Data that a client writes for a peer, the server reads as data for that peer, exactly, without
 /// DONT-FRAGMENT, from a Send indication (RFC 8656, section 11.2). Data of a peer that the server writes, the client
-/// reads as data of this very peer, exactly, from a Data indication (section 11.4).
+/// reads as data of that peer, exactly, from a Data indication (section 11.4).
 pub fn data_is_read()
     ensures sent { (last_channel : ℕ) (sets_df : Bool) (site : Site) (transport : TransportType) (id : ℕ)
         (peer : Endpoint) (bytes : List ℕ) → id < 2 ^ 96 → IsTransport peer → length bytes < 2 ^ 16
@@ -34,7 +34,7 @@ pub fn data_is_read()
 }
 
 /// The same of ChannelData (RFC 8656, section 12.6): what one side writes on a channel, the other reads as that
-/// data, exactly, on that channel. Over UDP and on a stream.
+/// data, exactly, on that channel, over UDP and on a stream.
 pub fn channel_data_is_read()
     ensures sent_on { (last_channel : ℕ) (sets_df : Bool) (site : Site) (transport : TransportType)
         (channel : ℕ) (bytes : List ℕ) → IsChannel channel → length bytes < 2 ^ 16
