@@ -76,7 +76,7 @@ pub struct CIceChange {
     pub reserved: u16,
 }
 
-/// The standing if there is no agent.
+/// The status if there is no agent.
 const NO_STANDING: CIceStanding = CIceStanding {
     path: NO_PATH,
     progress: 0,
