@@ -4,6 +4,7 @@ import json
 import os
 import pathlib
 import re
+import shutil
 import signal
 import socket
 import subprocess
@@ -464,7 +465,9 @@ def with_other(programs, network, command, own, all_of, *words):
 
 
 def libnice_command(programs):
-    status, flags, _ = run(["pkg-config", "--cflags", "--libs", "nice"])
+    status, flags = 1, ""
+    if shutil.which("pkg-config"):
+        status, flags, _ = run(["pkg-config", "--cflags", "--libs", "nice"])
     if status != 0 or not c_compiler():
         raise Skipped("it needs libnice with its headers (libnice-dev), pkg-config and a C compiler")
     program = f"{programs['folder']}/with_libnice"
@@ -474,7 +477,7 @@ def libnice_command(programs):
 
 def aioice_command(_):
     command = ["/usr/bin/python3", "-B", str(HERE / "sides/with_aioice.py")]
-    if run([command[0], "-c", "import aioice"])[0] != 0:
+    if not os.path.exists(command[0]) or run([command[0], "-c", "import aioice"])[0] != 0:
         raise Skipped("it needs aioice, a package of Python")
     return command
 
