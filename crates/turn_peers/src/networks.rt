@@ -115,8 +115,10 @@ impl Prefix {
     pub(crate) fn contains(&self, ip: Ip) -> bool
         ensures { result ≡ contains ip self.now }
     {
+        if self.network.family != ip.family {
+            return false;
+        }
         let dropped = width(self.network.family).saturating_sub(self.length);
-        self.network.family == ip.family
-            && without_last(ip.number, dropped) == without_last(self.network.number, dropped)
+        without_last(ip.number, dropped) == without_last(self.network.number, dropped)
     }
 }
