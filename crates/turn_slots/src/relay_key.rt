@@ -20,17 +20,18 @@ pub struct RelayKey {
 }
 
 impl RelayKey {
-    /// The families of the client and of the relayed address, the protocol and the ports as one number.
+    /// The family of the client, the protocol and the ports as one number.
     fn small_parts(&self) -> u64
         ensures { result ≡ small_parts self.now }
     {
         let ports = self.tuple.client.port as u64 * 65_536 + self.tuple.server.port as u64;
-        let families = self.tuple.client.ip.family as u64 * 256 + self.family as u64;
-        (families * 256 + self.tuple.transport as u64) * 4_294_967_296 + ports
+        let kinds = self.tuple.client.ip.family as u64 * 256 + self.tuple.transport as u64;
+        kinds * 4_294_967_296 + ports
     }
 }
 
-// Whole words, since a hasher takes these at once. The server's IP address is left out: a server has few.
+// Whole words, since a hasher takes these at once. The server's IP address is left out: a server has few. So is
+// the family, so that a client's relayed addresses have one hash.
 impl Hash for RelayKey {
     ghost hash_input = { λ key. fed.u128 key.tuple.client.ip.number ++ fed.u64 (small_parts key) };
 
