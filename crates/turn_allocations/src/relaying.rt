@@ -93,28 +93,30 @@ pub(crate) fn send<const P: usize, const C: usize, A: PeerPolicy>(
 }
 
 /// The places of a client, the newest first.
-fn newest_first(client: &Client) -> (Option<Place>, Option<Place>)
+fn newest_first(client: &Client) -> (&Option<Place>, &Option<Place>)
     ensures { (t : Table) (tuple : FiveTuple) → Owns t tuple client.now
-        → AreNewestFirst t tuple result.0 result.1 }
+        → AreNewestFirst t tuple result.0.now result.1.now }
 {
-    match (client.ipv4, client.ipv6) {
+    match (&client.ipv4, &client.ipv6) {
         (Some(one), Some(other)) if one.relayed.number < other.relayed.number => {
-            (Some(other), Some(one))
+            (&client.ipv6, &client.ipv4)
         }
-        (one, other) => (one, other),
+        _ => (&client.ipv4, &client.ipv6),
     }
 }
 
 /// The number of the relayed address in a place, and the peer that a channel of it is bound to.
 fn peer_in<const P: usize, const C: usize>(
     relays: &Relays<P, C>,
-    place: Option<Place>,
+    place: &Option<Place>,
     channel: u16,
 ) -> Option<(u64, Endpoint)>
-    ensures { (o : Option Relay) → IsPlaced relays.now place o
+    ensures { (o : Option Relay) → IsPlaced relays.now place.now o
         → result ≡ option_and_then (peer_by relays.now.clock channel) o }
 {
-    let place = place?;
+    let Some(place) = place else {
+        return None;
+    };
     let peer = relays.peer_on(place.slot, channel)?;
     Some((place.relayed.number, peer))
 }
@@ -137,8 +139,8 @@ fn peer_on<const P: usize, const C: usize>(
 }
 
 /// The family of the relayed address in a place, unless it has expired.
-fn live_family(place: Option<Place>, now: u128) -> Option<u8>
-    ensures { (t : Table) (o : Option Relay) → IsPlaced t place o
+fn live_family(place: &Option<Place>, now: u128) -> Option<u8>
+    ensures { (t : Table) (o : Option Relay) → IsPlaced t place.now o
         → result ≡ option_and_then (live_family now) o }
 {
     match place {
