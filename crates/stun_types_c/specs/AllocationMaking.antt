@@ -4,7 +4,6 @@ use Rattle.std.specs.Option.{option_map, option_or}
 use Rattle.stun_base.specs.declared.transport.TransportType.{TransportType}
 use Rattle.stun_base.specs.declared.transport.TransportType.TheVariants.{Udp, Tcp}
 use Rattle.stun_endpoints.specs.declared.endpoints.Endpoint.{Endpoint}
-use Rattle.stun_endpoints.specs.Conversions.{endpoint_of}
 use Rattle.stun_values.specs.declared.algorithm.PasswordAlgorithmValue.{PasswordAlgorithmValue}
 use Rattle.stun_authentication.specs.Requests.{User}
 use Rattle.turn_client_machine.specs.Runs.{begun}
@@ -13,13 +12,12 @@ use Rattle.turn_client_state.specs.declared.settings.Settings.{Settings}
 use Rattle.turn_client_state.specs.Reports.{nothing_of}
 use Rattle.turn_client_state.specs.States.{setup_of}
 use Rattle.turn_client.specs.Clients.{Client, algorithms_in, family_in, transport_of}
-use Rattle.stun_types_c.specs.declared.address.Address.{Address}
 use Rattle.stun_types_c.specs.declared.allocation_core.AllocationCore.{AllocationCore}
 use Rattle.stun_types_c.specs.declared.allocation_settings.CAllocationSettings.{CAllocationSettings}
 use Rattle.stun_types_c.specs.declared.allocation_settings.Checked.{Checked}
 use Rattle.stun_types_c.specs.declared.allocation_settings.Counts.{Counts}
 use Rattle.stun_types_c.specs.declared.call_result.CResult.{CResult}
-use Rattle.stun_types_c.specs.Addresses.{socket_named}
+pub use Rattle.stun_types_c.specs.Addresses.{endpoint_named}
 use Rattle.stun_types_c.specs.CResults.{plain, counted, Refuses}
 use Rattle.stun_types_c.specs.Codes.{OK, TOO_LARGE, OUT_OF_MEMORY}
 use Rattle.stun_types_c.specs.Credentials.{texts_refusal}
@@ -30,10 +28,6 @@ use Rattle.stun_types_c.specs.Transactions.{transport_numbered}
 use Rattle.stun_types_c.specs.TurnMaking.{argument_answer, is_set, software_named}
 
 -- ---- What each number means
-
--- the endpoint that C's form names
-abbrev pub endpoint_named : Address → Option Endpoint
-endpoint_named address = option_map endpoint_of (socket_named address)
 
 -- the family of the relayed address, and whether Allocate requests name it although it is IPv4
 abbrev pub family_named : ℕ → Option (ℕ × Bool)
