@@ -1,4 +1,5 @@
 mod ListsLemmas
+mod JoiningLemmas
 mod Keeping
 mod SoundLemmas
 mod FewLemmas

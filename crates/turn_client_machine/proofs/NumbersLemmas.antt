@@ -1,16 +1,16 @@
 -- A property of the list of peers holds after each step, if each change of a peer that keeps its number and
 -- address keeps it, and so does a new peer. So each peer's number is its place.
-use Rattle.std.proofs.Common.{◌≡◌, ◌<◌, inl, inr, ◌⊎◌, ℕ, suc, Bool, true, false, ◌&&◌, List, [], ◌∷◌, Option, None, Some, map, refl, ap, subst, sym, ◌∙◌, arith, ltb-true, eqb-true, find, length}
+use Rattle.std.proofs.Common.{◌≡◌, ◌<◌, inl, inr, ◌⊎◌, ℕ, zero, suc, Bool, true, false, ◌&&◌, List, [], ◌∷◌, Option, None, Some, map, refl, ap, subst, sym, ◌∙◌, arith, ltb-true, eqb-true, find, length}
 use mathlib.Core.Logic.{⊎_elim}
 use Rattle.std.specs.List.{AllByRecursion, list_any}
 use Rattle.std.specs.Option.{option_map_or}
-use Rattle.std.specs.Prelude.{◌==◌, nat_lt, min, is_some}
+use Rattle.std.specs.Prelude.{◌==◌, nat_lt, min, is_some, if◌then◌else◌}
 use Rattle.std.proofs.lemmas.Bool.{cond_both, and_parts, or_cases, false≢true, true≢false}
 use Rattle.turn_client_machine.specs.Clients.{Endpoint, is_endpoint, Setup, Kind, Allocate, Refresh, Delete, Permit, Bind, Request, Pending, Phase, Quiet, Asking, Allocated, Closing, Ended, Peer, State, is_allocated, is_active, is_peer, is_rested, Useless}
 use Rattle.turn_client_machine.specs.Events.{Answer, Opened, Extended, Done, Refused, Challenged, Redirected, Violated, Event, allocates, permits, binds, drops, sends, closes, responds, gives, gives_on, strays, polls}
 use Rattle.turn_client_machine.specs.Tasks.{awaits, may_retry, is_due, is_expired}
-use Rattle.turn_client_machine.specs.Responses.{asks_instead, changed_first, is_allocate, opened, extended, extended_by, answered, restarted, reopened, granted_by, granted, turned_down, challenged, awaits_of, answered_peer, deletes, is_long, is_useful, violated_by}
-use Rattle.turn_client_machine.specs.Steps.{Step, keeps, at, covers, has_room, can_name, new_peer, replaced, with_new, wanting, dropped, is_listed, begins, closes_from, turned_of, turns_peer, happens, is_next, is_free, is_under_way}
+use Rattle.turn_client_machine.specs.Responses.{asks_instead, changed_first, changed_each, is_allocate, opened, extended, extended_by, answered, restarted, reopened, granted_by, granted, turned_down, challenged, awaits_of, answered_peer, deletes, is_long, is_useful, violated_by}
+use Rattle.turn_client_machine.specs.Steps.{Step, keeps, at, covers, has_room, can_name, new_peer, replaced, with_new, wanting, dropped, is_listed, begins, closes_from, turned_of, turns_peer, turned_first, takes_along, most_others, joined, happens, is_next, is_fit, is_free, is_single}
 use Rattle.turn_client_machine.specs.Runs.{Timed, run}
 use Rattle.turn_client_machine.specs.Bounds.{AreNumbered}
 
@@ -46,13 +46,13 @@ violated_same setup p = cond_both setup.is_reliable _ _ (IsSame p) (λ _. (refl,
 pub wanting_same : (clock : ℕ) (p : Peer) → IsSame p (wanting clock p)
 wanting_same clock p = cond_both p.over _ _ (IsSame p) (λ _. (refl, refl, λ _. refl, λ u e. absurd cc)) (λ _. cond_both p.wants _ _ (IsSame p) (λ _. (refl, refl, λ w. w, λ u e. e)) (λ _. (refl, refl, λ _. refl, λ u e. e)))
 
-pub turned_same : (setup : Setup) (clock fresh : ℕ) (challenge : Option ℕ) (p : Peer) → IsSame p (turned_of setup clock fresh challenge p)
-turned_same setup clock fresh challenge p = cond_both (is_expired clock p.task) _ _ (IsSame p) (λ _. (refl, refl, λ w. w, λ u e. e)) (λ _. (refl, refl, λ w. w, λ u e. e))
+pub turned_same : (along : Bool) (setup : Setup) (clock fresh : ℕ) (challenge : Option ℕ) (p : Peer) → IsSame p (turned_of along setup clock fresh challenge p)
+turned_same along setup clock fresh challenge p = cond_both (is_expired clock p.task) _ _ (IsSame p) (λ _. (refl, refl, λ w. w, λ u e. e)) (λ _. (refl, refl, λ w. w, λ u e. e))
 
--- ---- None but a poll makes a new request
+-- ---- None but a poll makes a new request for a single peer
 
 abbrev pub IsCalm : Peer → Peer → Type 0
-IsCalm p q = is_under_way q ≡ true → is_under_way p ≡ true
+IsCalm p q = is_single q ≡ true → is_single p ≡ true
 
 granted_by_calm : (r : Request) (kind : Kind) (p : Peer) → IsCalm p (granted_by r kind p)
 granted_by_calm r Allocate p = λ is. is
@@ -101,7 +101,9 @@ no_names setup state event L one two three = record {
 pub record PeersKeep (setup : Setup) (L : List Peer → Type 0) : Type 0 where
   pub mapped : (change : Peer → Peer) → ((p : Peer) → IsSame p (change p)) → ((p : Peer) → IsCalm p (change p)) → (ps : List Peer) → L ps → L (map {B = Peer} change ps)
   pub changed : (test : Peer → Bool) (change : Peer → Peer) → ((p : Peer) → IsSame p (change p)) → ((p : Peer) → IsCalm p (change p)) → (ps : List Peer) → L ps → L (changed_first test change ps)
-  pub turned : (clock fresh : ℕ) (challenge : Option ℕ) (ps : List Peer) → L ps → L (changed_first (is_next (is_free ps) clock) (turned_of setup clock fresh challenge) ps)
+  pub changed_all : (test : Peer → Bool) (change : Peer → Peer) → ((p : Peer) → IsSame p (change p)) → ((p : Peer) → IsCalm p (change p)) → (ps : List Peer) → L ps → L (changed_each test change ps)
+  pub turned : (along : Bool) (clock fresh : ℕ) (challenge : Option ℕ) (ps : List Peer) → L ps → L (changed_first (is_next (is_free ps) clock) (turned_of along setup clock fresh challenge) ps)
+  pub joins : (clock fresh : ℕ) (challenge : Option ℕ) (ps : List Peer) → L ps → L (changed_first (is_fit clock) (turned_of true setup clock fresh challenge) ps)
 
 with_new_peers : (L : List Peer → Type 0) (setup : Setup) (state : State) (event : Event) → NamesKeep setup state event L → (wants : Bool) (address : Endpoint) → (event ≡ permits address) ⊎ (event ≡ binds address) → list_any (is_peer address) state.peers ≡ false → L state.peers → L (with_new setup state.clock wants address state.peers)
 with_new_peers L setup state event n wants address named unknown are = cond_both (can_name setup state.clock address state.peers) _ _ L
@@ -128,20 +130,27 @@ answered_peers L setup c authentic Violated state r few = cond_both setup.is_rel
 peer_peers : (L : List Peer → Type 0) (setup : Setup) → PeersKeep setup L → (id : ℕ) (authentic : Bool) (answer : Answer) (state : State) → L state.peers → L (answered_peer setup id authentic answer state).peers
 peer_peers L setup c id authentic (Opened relayed mapped lifetime) state few = few
 peer_peers L setup c id authentic (Extended lifetime) state few = few
-peer_peers L setup c id authentic Done state few = cond_both authentic _ _ (λ (s : State). L s.peers) (λ _. c.changed (awaits_of id) granted granted_same granted_calm state.peers few) (λ _. few)
+peer_peers L setup c id authentic Done state few = cond_both authentic _ _ (λ (s : State). L s.peers) (λ _. c.changed_all (awaits_of id) granted granted_same granted_calm state.peers few) (λ _. few)
 peer_peers L setup c id authentic (Refused code) state few = cond_both authentic _ _ (λ (s : State). L s.peers)
-    (λ _. cond_both (code == 437) _ _ (λ (s : State). L s.peers) (λ _. few) (λ _. c.changed (awaits_of id) (turned_down state.clock code) (turned_down_same state.clock code) (turned_down_calm state.clock code) state.peers few)) (λ _. few)
-peer_peers L setup c id authentic (Challenged code challenge) state few = c.changed (awaits_of id) (challenged setup state.challenge state.clock code) (challenged_same setup state.challenge state.clock code) (challenged_calm setup state.challenge state.clock code) state.peers few
+    (λ _. cond_both (code == 437) _ _ (λ (s : State). L s.peers) (λ _. few) (λ _. c.changed_all (awaits_of id) (turned_down state.clock code) (turned_down_same state.clock code) (turned_down_calm state.clock code) state.peers few)) (λ _. few)
+peer_peers L setup c id authentic (Challenged code challenge) state few = c.changed_all (awaits_of id) (challenged setup state.challenge state.clock code) (challenged_same setup state.challenge state.clock code) (challenged_calm setup state.challenge state.clock code) state.peers few
 peer_peers L setup c id authentic (Redirected server) state few = few
-peer_peers L setup c id authentic Violated state few = c.changed (awaits_of id) (violated_by setup) (violated_same setup) (violated_calm setup) state.peers few
+peer_peers L setup c id authentic Violated state few = c.changed_all (awaits_of id) (violated_by setup) (violated_same setup) (violated_calm setup) state.peers few
 
 task_peers : (L : List Peer → Type 0) (setup : Setup) → PeersKeep setup L → (authentic : Bool) (answer : Answer) (state : State) (o : Option Pending) → L state.peers → L (option_map_or (λ (q : Pending). answered setup authentic answer state q.request) o state).peers
 task_peers L setup c authentic answer state None few = few
 task_peers L setup c authentic answer state (Some q) few = answered_peers L setup c authentic answer state q.request few
 
+-- what each further peer keeps
+pub joined_keeps : (L : List Peer → Type 0) (setup : Setup) (clock fresh : ℕ) (challenge : Option ℕ) → ((ps : List Peer) → L ps → L (changed_first (is_fit clock) (turned_of true setup clock fresh challenge) ps)) → (n : ℕ) (ps : List Peer) → L ps → L (joined setup clock fresh challenge n ps)
+joined_keeps L setup clock fresh challenge f zero ps is = is
+joined_keeps L setup clock fresh challenge f (suc n) ps is = joined_keeps L setup clock fresh challenge f n (changed_first (is_fit clock) (turned_of true setup clock fresh challenge) ps) (f ps is)
+
 turn_peers : (L : List Peer → Type 0) (setup : Setup) → PeersKeep setup L → (fresh : ℕ) (state : State) (o : Option Peer) → L state.peers → L (option_map_or (turns_peer setup fresh (is_free state.peers) state) o (keeps state)).state.peers
 turn_peers L setup c fresh state None few = few
-turn_peers L setup c fresh state (Some p) few = c.turned state.clock fresh state.challenge state.peers few
+turn_peers L setup c fresh state (Some p) few =
+    let along = takes_along setup state.clock state.peers p in
+    joined_keeps L setup state.clock fresh state.challenge (c.joins state.clock fresh state.challenge) (most_others setup along) (turned_first setup fresh (is_free state.peers) along state) (c.turned along state.clock fresh state.challenge state.peers few)
 
 begins_peers : (L : List Peer → Type 0) → (phase : Phase) (state : State) → L state.peers → L (begins phase state).peers
 begins_peers L Quiet state few = few
@@ -195,6 +204,18 @@ length-changed_first test change (x ∷ xs) =
     let more = length-changed_first test change xs in
     cond_both (test x) (change x ∷ xs) (x ∷ changed_first test change xs) (λ ys. length ys ≡ suc (length xs)) (λ _. refl) (λ _. ap suc more)
 
+pub length-changed_each : {X : Type 0} (test : X → Bool) (change : X → X) (xs : List X) → length (changed_each test change xs) ≡ length xs
+length-changed_each test change [] = refl
+length-changed_each test change (x ∷ xs) = ap suc (length-changed_each test change xs)
+
+each_numbered : (test : Peer → Bool) (change : Peer → Peer) → ((p : Peer) → (change p).number ≡ p.number) → (ps : List Peer) → AreNumbered ps → AreNumbered (changed_each test change ps)
+each_numbered test change same [] are = tt
+each_numbered test change same (p ∷ ps) are =
+    let size = length-changed_each test change ps in
+    let one : (if test p then change p else p).number ≡ p.number = cond_both (test p) (change p) p (λ (q : Peer). q.number ≡ p.number) (λ _. same p) (λ _. refl) in
+    let place = are.0 in let few = are.1.0 in
+    (omega (arith, size, one, place), (omega (arith, size, few), each_numbered test change same ps are.1.1))
+
 mapped_numbered : (change : Peer → Peer) → ((p : Peer) → IsSame p (change p)) → (ps : List Peer) → AreNumbered ps → AreNumbered (map {B = Peer} change ps)
 mapped_numbered change same [] are = tt
 mapped_numbered change same (p ∷ ps) are =
@@ -214,7 +235,9 @@ numbered_keep : (setup : Setup) → PeersKeep setup AreNumbered
 numbered_keep setup = record {
   mapped = λ change same calm. mapped_numbered change same;
   changed = λ test change same calm. changed_numbered test change (λ p. (same p).0);
-  turned = λ clock fresh challenge ps. changed_numbered (is_next (is_free ps) clock) (turned_of setup clock fresh challenge) (λ p. (turned_same setup clock fresh challenge p).0) ps;
+  changed_all = λ test change same calm. each_numbered test change (λ p. (same p).0);
+  turned = λ along clock fresh challenge ps. changed_numbered (is_next (is_free ps) clock) (turned_of along setup clock fresh challenge) (λ p. (turned_same along setup clock fresh challenge p).0) ps;
+  joins = λ clock fresh challenge ps. changed_numbered (is_fit clock) (turned_of true setup clock fresh challenge) (λ p. (turned_same true setup clock fresh challenge p).0) ps;
 }
 
 -- if no number has rested, there is room for one more
@@ -251,11 +274,20 @@ changed_family family test change same (p ∷ ps) are =
     cond_both (test p) (change p ∷ ps) (p ∷ changed_first test change ps) (AreOfFamily family)
     (λ _. (same p are.0, are.1)) (λ _. (are.0, changed_family family test change same ps are.1))
 
+each_family : (family : ℕ) (test : Peer → Bool) (change : Peer → Peer) → ((p : Peer) → IsSame p (change p)) → (ps : List Peer) → AreOfFamily family ps → AreOfFamily family (changed_each test change ps)
+each_family family test change same [] are = tt
+each_family family test change same (p ∷ ps) are = (
+  cond_both (test p) (change p) p (λ (q : Peer). q.address.ip.family ≡ family) (λ _. ap (λ (e : Endpoint). e.ip.family) (same p).1 ∙ are.0) (λ _. are.0),
+  each_family family test change same ps are.1,
+)
+
 family_keep : (setup : Setup) → PeersKeep setup (AreOfFamily setup.family)
 family_keep setup = record {
   mapped = λ change same calm. mapped_family setup.family change same;
   changed = λ test change same calm. changed_family setup.family test change (λ p is. ap (λ (e : Endpoint). e.ip.family) (same p).1 ∙ is);
-  turned = λ clock fresh challenge ps. changed_family setup.family (is_next (is_free ps) clock) (turned_of setup clock fresh challenge) (λ p is. ap (λ (e : Endpoint). e.ip.family) (turned_same setup clock fresh challenge p).1 ∙ is) ps;
+  changed_all = λ test change same calm. each_family setup.family test change same;
+  turned = λ along clock fresh challenge ps. changed_family setup.family (is_next (is_free ps) clock) (turned_of along setup clock fresh challenge) (λ p is. ap (λ (e : Endpoint). e.ip.family) (turned_same along setup clock fresh challenge p).1 ∙ is) ps;
+  joins = λ clock fresh challenge ps. changed_family setup.family (is_fit clock) (turned_of true setup clock fresh challenge) (λ p is. ap (λ (e : Endpoint). e.ip.family) (turned_same true setup clock fresh challenge p).1 ∙ is) ps;
 }
 
 named_family : (setup : Setup) (clock : ℕ) (address : Endpoint) (peers : List Peer) → can_name setup clock address peers ≡ true → address.ip.family ≡ setup.family
