@@ -1,5 +1,5 @@
 -- Peers that are asked for together, in one CreatePermission request.
-use Rattle.std.proofs.Common.{◌≡◌, ℕ, zero, suc, ◌+◌, ◌≤◌, inl, inr, ◌⊎◌, Bool, true, false, not, ◌&&◌, ◌||◌, List, ◌++◌, map, length, Option, None, Some, refl, sym, ap, ◌∙◌, find, arith, zero-le}
+use Rattle.std.proofs.Common.{◌≡◌, ℕ, zero, suc, ◌+◌, ◌≤◌, inl, inr, ◌⊎◌, Bool, true, false, not, ◌&&◌, ◌||◌, List, ◌++◌, map, length, Option, None, Some, refl, sym, ap, ◌∙◌, find, arith, zero-le, ◌∷◌, []}
 use Rattle.std.specs.List.{AllByRecursion, list_any}
 use Rattle.std.specs.Option.{option_map_or, option_to_list}
 use Rattle.std.specs.Prelude.{is_some, nat_lt, if◌then◌else◌}
@@ -76,13 +76,12 @@ pub joined_some : (P : Peer → Type 0) (setup : Setup) (clock fresh : ℕ) (cha
     → AllByRecursion P (joined setup clock fresh challenge n ps)
 joined_some P setup clock fresh challenge zero ps f each = each
 joined_some P setup clock fresh challenge (suc n) ps f each =
-    let next = changed_first (is_fit clock) (turned_of true setup clock fresh challenge) ps in
-    let first = map {B = Endpoint} (λ (q : Peer). q.address) (option_to_list (find (is_fit clock) ps)) in
-    let rest = others_of setup clock fresh challenge n next in
-    joined_some P setup clock fresh challenge n next
-    (λ p fit some. f p fit (some_right (λ e. p.address ≡ e) first rest some))
-    (each_changed P (is_fit clock) (turned_of true setup clock fresh challenge) ps
-    (λ p fit found. f p fit (some_left (λ e. p.address ≡ e) first rest (found_named p (find (is_fit clock) ps) found))) each)
+    let before = joined setup clock fresh challenge n ps in
+    let first = others_of setup clock fresh challenge n ps in
+    let last = map {B = Endpoint} (λ (q : Peer). q.address) (option_to_list (find (is_fit clock) before)) in
+    each_changed P (is_fit clock) (turned_of true setup clock fresh challenge) before
+    (λ p fit found. f p fit (some_right (λ e. p.address ≡ e) first last (found_named p (find (is_fit clock) before) found)))
+    (joined_some P setup clock fresh challenge n ps (λ p fit some. f p fit (some_left (λ e. p.address ≡ e) first last some)) each)
 
 pub joined_each : (P : Peer → Type 0) (setup : Setup) (clock fresh : ℕ) (challenge : Option ℕ) (along : Bool) (n : ℕ) (ps : List Peer)
     → (along ≡ true → (p : Peer) → is_fit clock p ≡ true → SomeOf (λ e. p.address ≡ e) (others_of setup clock fresh challenge n ps) → P p → P (turned_of true setup clock fresh challenge p)) → AllByRecursion P ps
@@ -104,25 +103,35 @@ fit_on clock p fit = not-true p.over (and_parts (not p.over) (is_due (clock + se
 found_named_each : (P : Endpoint → Type 0) (clock : ℕ) (ps : List Peer) → AllByRecursion (IfOn P) ps → AllByRecursion P (map {B = Endpoint} (λ (q : Peer). q.address) (option_to_list (find (is_fit clock) ps)))
 found_named_each P clock ps each = found (IfOn P) (is_fit clock) (λ o. AllByRecursion P (map {B = Endpoint} (λ (q : Peer). q.address) (option_to_list o))) tt ps (λ p fit is. (is (fit_on clock p fit), tt)) each
 
-length_found : (o : Option Peer) (rest : List Endpoint) (n : ℕ) → length rest ≤ n → length (map {B = Endpoint} (λ (q : Peer). q.address) (option_to_list o) ++ rest) ≤ suc n
-length_found None rest n le = omega (arith, le)
-length_found (Some p) rest n le = omega (arith, le)
+length_both : {X : Type 0} (xs ys : List X) → length (xs ++ ys) ≡ length xs + length ys
+length_both [] ys = omega arith
+length_both (x ∷ xs) ys = let more = length_both xs ys in omega (arith, more)
+
+length_one : (o : Option Peer) → length (map {B = Endpoint} (λ (q : Peer). q.address) (option_to_list o)) ≤ 1
+length_one None = omega arith
+length_one (Some p) = omega arith
+
+joined_on : (P : Endpoint → Type 0) (setup : Setup) (clock fresh : ℕ) (challenge : Option ℕ) (n : ℕ) (ps : List Peer) → AllByRecursion (IfOn P) ps → AllByRecursion (IfOn P) (joined setup clock fresh challenge n ps)
+joined_on P setup clock fresh challenge zero ps each = each
+joined_on P setup clock fresh challenge (suc n) ps each = turned_each P true setup clock fresh challenge (is_fit clock) (joined setup clock fresh challenge n ps) (joined_on P setup clock fresh challenge n ps each)
 
 -- what holds of each peer that isn't over holds of those that are named
 pub others_each : (P : Endpoint → Type 0) (setup : Setup) (clock fresh : ℕ) (challenge : Option ℕ) (n : ℕ) (ps : List Peer) → AllByRecursion (IfOn P) ps → AllByRecursion P (others_of setup clock fresh challenge n ps)
 others_each P setup clock fresh challenge zero ps each = tt
 others_each P setup clock fresh challenge (suc n) ps each =
-    let next = changed_first (is_fit clock) (turned_of true setup clock fresh challenge) ps in
-    each_append P (map {B = Endpoint} (λ (q : Peer). q.address) (option_to_list (find (is_fit clock) ps))) (others_of setup clock fresh challenge n next)
-    (found_named_each P clock ps each)
-    (others_each P setup clock fresh challenge n next (turned_each P true setup clock fresh challenge (is_fit clock) ps each))
+    let before = joined setup clock fresh challenge n ps in
+    each_append P (others_of setup clock fresh challenge n ps) (map {B = Endpoint} (λ (q : Peer). q.address) (option_to_list (find (is_fit clock) before)))
+    (others_each P setup clock fresh challenge n ps each)
+    (found_named_each P clock before (joined_on P setup clock fresh challenge n ps each))
 
 pub length_others : (setup : Setup) (clock fresh : ℕ) (challenge : Option ℕ) (n : ℕ) (ps : List Peer) → length (others_of setup clock fresh challenge n ps) ≤ n
 length_others setup clock fresh challenge zero ps = zero-le
 length_others setup clock fresh challenge (suc n) ps =
-    let next = changed_first (is_fit clock) (turned_of true setup clock fresh challenge) ps in
-    let more = length_others setup clock fresh challenge n next in
-    length_found (find (is_fit clock) ps) (others_of setup clock fresh challenge n next) n more
+    let found_it = find (is_fit clock) (joined setup clock fresh challenge n ps) in
+    let more = length_others setup clock fresh challenge n ps in
+    let one = length_one found_it in
+    let both = length_both (others_of setup clock fresh challenge n ps) (map {B = Endpoint} (λ (q : Peer). q.address) (option_to_list found_it)) in
+    omega (arith, more, one, both)
 
 -- ---- What a peer's turn asks for
 

@@ -39,3 +39,4 @@ mod LossLemmas
 mod TidyLemmas
 mod DroppedLemmas
 mod RestingLemmas
+mod SharingLemmas

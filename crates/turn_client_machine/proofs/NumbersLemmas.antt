@@ -144,7 +144,7 @@ task_peers L setup c authentic answer state (Some q) few = answered_peers L setu
 -- what each further peer keeps
 pub joined_keeps : (L : List Peer → Type 0) (setup : Setup) (clock fresh : ℕ) (challenge : Option ℕ) → ((ps : List Peer) → L ps → L (changed_first (is_fit clock) (turned_of true setup clock fresh challenge) ps)) → (n : ℕ) (ps : List Peer) → L ps → L (joined setup clock fresh challenge n ps)
 joined_keeps L setup clock fresh challenge f zero ps is = is
-joined_keeps L setup clock fresh challenge f (suc n) ps is = joined_keeps L setup clock fresh challenge f n (changed_first (is_fit clock) (turned_of true setup clock fresh challenge) ps) (f ps is)
+joined_keeps L setup clock fresh challenge f (suc n) ps is = f (joined setup clock fresh challenge n ps) (joined_keeps L setup clock fresh challenge f n ps is)
 
 turn_peers : (L : List Peer → Type 0) (setup : Setup) → PeersKeep setup L → (fresh : ℕ) (state : State) (o : Option Peer) → L state.peers → L (option_map_or (turns_peer setup fresh (is_free state.peers) state) o (keeps state)).state.peers
 turn_peers L setup c fresh state None few = few

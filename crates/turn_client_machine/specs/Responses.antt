@@ -14,10 +14,11 @@ changed_first test change (x ∷ xs) =
     if test x then change x ∷ xs else x ∷ changed_first test change xs
 
 -- each element that passes a test is changed
+abbrev pub changed_if : {X : Type 0} → (X → Bool) → (X → X) → X → X
+changed_if test change x = if test x then change x else x
+
 abbrev pub changed_each : {X : Type 0} → (X → Bool) → (X → X) → List X → List X
-changed_each test change [] = []
-changed_each test change (x ∷ xs) =
-    (if test x then change x else x) ∷ changed_each test change xs
+changed_each {X = X} test change xs = map {B = X} (changed_if test change) xs
 
 abbrev pub is_allocate : Kind → Bool
 is_allocate Allocate = true

@@ -258,16 +258,16 @@ abbrev pub joined : Setup → (clock fresh : ℕ) → (challenge : Option ℕ) �
     → List Peer
 joined setup clock fresh challenge zero peers = peers
 joined setup clock fresh challenge (suc n) peers =
-    joined setup clock fresh challenge n
-    (changed_first (is_fit clock) (turned_of true setup clock fresh challenge) peers)
+    changed_first (is_fit clock) (turned_of true setup clock fresh challenge)
+    (joined setup clock fresh challenge n peers)
 
 abbrev pub others_of : Setup → (clock fresh : ℕ) → (challenge : Option ℕ) → (n : ℕ) → List Peer
     → List Endpoint
 others_of setup clock fresh challenge zero peers = []
 others_of setup clock fresh challenge (suc n) peers =
-    map {B = Endpoint} (λ p. p.address) (option_to_list (find (is_fit clock) peers))
-    ++ others_of setup clock fresh challenge n
-    (changed_first (is_fit clock) (turned_of true setup clock fresh challenge) peers)
+    others_of setup clock fresh challenge n peers
+    ++ map {B = Endpoint} (λ p. p.address)
+    (option_to_list (find (is_fit clock) (joined setup clock fresh challenge n peers)))
 
 -- ---- A peer's turn
 

@@ -71,7 +71,7 @@ mod tasks;
 pub use laws::{
     attempts_are_few, client_and_server_meet, client_is_bounded, data_crosses, data_is_warranted,
     ends_for_a_reason, fit_is_heard, goes_on, granted_lasts, kept_alive, numbers_rest,
-    peers_are_dropped, peers_are_named, peers_stay, polls_come_to_an_end, premises_can_be_met,
+    peers_are_dropped, peers_are_named, peers_share_requests, peers_stay, polls_come_to_an_end, premises_can_be_met,
     renewals_are_rare, requests_are_identified, server_agrees, server_keeps, stays_punctual,
     strangers_change_nothing,
     turns_are_used, useless_is_deleted, violations_are_noted, will_reach,

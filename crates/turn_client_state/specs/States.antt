@@ -13,6 +13,7 @@ use Rattle.turn_client_machine.specs.Responses.{awaits_of}
 use Rattle.turn_client_machine.specs.Steps.{step}
 use Rattle.turn_client_state.specs.declared.settings.Settings.{Settings}
 use Rattle.turn_client_state.specs.declared.client.Status.{Status}
+use Rattle.turn_client_state.specs.declared.polling.Asking.{Asking}
 use Rattle.turn_client_state.specs.declared.data.Way.{Way}
 use Rattle.turn_client_state.specs.declared.data.Way.TheVariants.{Channel, Indication}
 
@@ -31,6 +32,7 @@ setup_of s = record {
   family = s.family;
   is_reliable = s.is_reliable;
   most_peers = s.most_peers;
+  most_named = min s.most_named 16;
   most_sends = s.most_sends;
   most_retries = s.most_retries;
   wait = wait_less s;
@@ -57,10 +59,15 @@ end_of since lifetime = since + seconds lifetime
 
 -- ---- Results
 
--- a request, if there is one
-abbrev pub asked_with : Option Request → Output
-asked_with None = nothing
-asked_with (Some r) = asks r
+-- a request, if there is one, and the further peers that it names
+abbrev pub asked_with : Option Request → (others : List Endpoint) → Output
+asked_with None others = nothing
+asked_with (Some r) others = asks r others
+
+-- a request as it is returned
+abbrev pub asking_with : Option Asking → Output
+asking_with None = nothing
+asking_with (Some a) = asks a.request a.others.items
 
 -- the user's data to a peer, sent so, if there is a way
 abbrev pub data_by : Endpoint → List ℕ → Option Way → Output

@@ -30,6 +30,8 @@ pub(crate) enum Sought {
     /// One for which a poll at a moment does something. Whether a further request may be sent comes
     /// first.
     Next(bool, u64),
+    /// One that may be asked for together with others at a moment.
+    Fit(u64),
 }
 
 /// Whether a ChannelBind request for the peer is under way.
@@ -56,6 +58,31 @@ pub(crate) fn is_under_way(peer: &Peer) -> bool
     ensures { result ≡ steps.is_under_way peer.now }
 {
     peer.task.pending.is_some()
+}
+
+/// Whether a request for this peer and others is under way.
+pub(crate) fn is_together(peer: &Peer) -> bool
+    ensures { result ≡ steps.is_together peer.now }
+{
+    is_under_way(peer) && peer.shared
+}
+
+/// Whether a request for this peer alone is under way.
+pub(crate) fn is_single(peer: &Peer) -> bool
+    ensures { result ≡ steps.is_single peer.now }
+{
+    is_under_way(peer) && !peer.shared
+}
+
+/// Whether the peer may be asked for together with others.
+pub(crate) fn is_fit(clock: u64, peer: &Peer) -> bool
+    ensures { result ≡ steps.is_fit clock peer.now }
+{
+    !is_under_way(peer)
+        && !(peer.wants || peer.shared)
+        && !is_expired(clock, &peer.task)
+        && !peer.over
+        && peer.task.due <= clock as u128 + 30_000_000_000
 }
 
 /// Whether another peer may take the place of a dropped one.
@@ -87,7 +114,7 @@ fn has_channel(clock: u64, address: Endpoint, peer: &Peer) -> bool
 fn is_next(free: bool, clock: u64, peer: &Peer) -> bool
     ensures { result ≡ steps.is_next free clock peer.now }
 {
-    (free || is_under_way(peer) || is_expired(clock, &peer.task))
+    (free || is_single(peer) || is_expired(clock, &peer.task))
         && !peer.over
         && is_due(clock, &peer.task)
 }
@@ -105,5 +132,6 @@ pub(crate) fn passes(sought: &Sought, peer: &Peer) -> bool
         Sought::WithChannel(clock, address) => has_channel(*clock, *address, peer),
         Sought::Awaiting(id) => awaits(*id, &peer.task),
         Sought::Next(free, clock) => is_next(*free, *clock, peer),
+        Sought::Fit(clock) => is_fit(*clock, peer),
     }
 }
