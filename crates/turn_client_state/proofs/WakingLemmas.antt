@@ -4,9 +4,10 @@ use Rattle.std.specs.List.{list_any}
 use Rattle.std.specs.Prelude.{not, is_some, nat_lt, nat_le, min, max, if◌then◌else◌}
 use Rattle.std.specs.Option.{option_map_or}
 use Rattle.std.proofs.lemmas.Bool.{cond_both, cond-true, cond-false, cases_Bool, and_left, and_right, and_from, and_parts, not-true, true≢false}
-use Rattle.turn_client_machine.specs.Clients.{Endpoint, Pending, seconds, Setup, State, is_allocated, is_active}
+use Rattle.turn_client_machine.specs.Clients.{Endpoint, seconds, Setup, State, is_allocated, is_active}
 use Rattle.turn_client_machine.specs.declared.peers.Peer.{Peer}
 use Rattle.turn_client_machine.specs.declared.requests.Kind.{Kind}
+use Rattle.turn_client_machine.specs.declared.tasks.Pending.{Pending}
 use Rattle.turn_client_machine.specs.declared.tasks.Task.{Task}
 use Rattle.turn_client_machine.specs.declared.phases.Phase.{Phase}
 use Rattle.turn_client_machine.specs.declared.phases.Phase.TheVariants.{Quiet, Asking, Allocated, Closing, Ended}

@@ -6,4 +6,4 @@ use Rattle.turn_client_state.proofs.changes.change_each.Given as goal
 
 abbrev pub invariant-loop-i : goal.invariant-loop-i
 invariant-loop-i l = l.peers
-    ≡ map {B = Peer} (changed_if (test_of l.sought.now) (changed_by l.by.now)) (take l.i l.initial.peers) ++ drop l.i l.initial.peers
+    ≡ map {B = Peer} (changed_if (test_of l.sought) (changed_by l.by)) (take l.i l.initial.peers) ++ drop l.i l.initial.peers
