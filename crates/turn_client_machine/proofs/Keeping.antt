@@ -140,8 +140,8 @@ first_asked setup fresh state p fit may =
     let others = others_at setup fresh (is_free state.peers) (takes_along setup state.clock state.peers p) state in
     let r = request_now state.clock fresh (kind_of p) state.challenge (own_task p) in
     let out : TurnOutput setup fresh state p ≡ asks r others =
-        cond-false (is_expired state.clock p.task) nothing (turn_output setup state.clock fresh (kind_of p) state.challenge others (own_task p)) fit
-        ∙ cond-true (may_send setup (own_task p)) (asks r others) nothing may in
+    cond-false (is_expired state.clock p.task) nothing (turn_output setup state.clock fresh (kind_of p) state.challenge others (own_task p)) fit
+    ∙ cond-true (may_send setup (own_task p)) (asks r others) nothing may in
     subst (AsksFor r) (sym out) (inl refl)
 
 -- a further peer
@@ -155,8 +155,8 @@ along_asked setup fresh state p q along fit some _ _ =
     let own = fresh_request clock fresh state.challenge q fit in
     let r = request_now clock fresh (kind_of p) state.challenge (own_task p) in
     let out : TurnOutput setup fresh state p ≡ asks r others =
-        cond-false (is_expired clock p.task) nothing (turn_output setup clock fresh (kind_of p) state.challenge others (own_task p)) (fit_parts clock p parts.fit).early
-        ∙ cond-true (may_send setup (own_task p)) (asks r others) nothing (fresh_may setup clock p parts.fit parts.sends) in
+    cond-false (is_expired clock p.task) nothing (turn_output setup clock fresh (kind_of p) state.challenge others (own_task p)) (fit_parts clock p parts.fit).early
+    ∙ cond-true (may_send setup (own_task p)) (asks r others) nothing (fresh_may setup clock p parts.fit parts.sends) in
     let r_is : r ≡ Wanted clock fresh state.challenge p.address = first in
     subst (AsksFor (request_now clock fresh (kind_of q) state.challenge (own_task q))) (sym out)
     (inr (record {
@@ -174,7 +174,7 @@ found_each P setup fresh state (Some p) is f each =
     let along = takes_along setup clock state.peers p in
     let turned = turned_first setup fresh (is_free state.peers) along state in
     let first : AllByRecursion P turned = each_changed P (is_next (is_free state.peers) clock) (turned_of along setup clock fresh state.challenge) state.peers
-        (λ q due found. let e : Some p ≡ Some q = sym is ∙ found in let same : p ≡ q = cc in f p q along refl (due_on clock q (next_due (is_free state.peers) clock q due)) (subst (λ (x : Peer). IsAskedFor setup clock fresh state.challenge x (TurnOutput setup fresh state p)) same (first_asked setup fresh state p))) each in
+    (λ q due found. let e : Some p ≡ Some q = sym is ∙ found in let same : p ≡ q = cc in f p q along refl (due_on clock q (next_due (is_free state.peers) clock q due)) (subst (λ (x : Peer). IsAskedFor setup clock fresh state.challenge x (TurnOutput setup fresh state p)) same (first_asked setup fresh state p))) each in
     joined_each P setup clock fresh state.challenge along (setup.most_named - 1) turned (λ taken q fit some. f p q true refl (due_on (clock + seconds 30) q (fit_parts clock q fit).due) (along_asked setup fresh state p q taken fit (subst (λ (n : ℕ). SomeOf (λ e. q.address ≡ e) (others_of setup clock fresh state.challenge n turned)) (sym (cond-true {A = ℕ} along (setup.most_named - 1) 0 taken)) some))) first
 
 polled_each : (P : Peer → Type 0) (setup : Setup) (fresh : ℕ) (state : State) → PeerChanges P setup fresh state polls → AllByRecursion P state.peers → AllByRecursion P (polled setup fresh state).state.peers

@@ -174,7 +174,7 @@ permitted setup state now fresh later other p some phase idle found turn unknown
     ∙ (cond-true (is_allocated st.phase) _ (keeps st) there ∙ ap (λ (o : Option Peer). option_map_or (turns_peer setup fresh (is_free st.peers) st) o (keeps st)) found) in
     let after = at later (turns_peer setup fresh (is_free st.peers) st p).state in (
       ap (λ (s : Step). s.output) asked ∙ (cond-false (is_expired st.clock p.task) nothing (turn_output setup st.clock fresh (kind_of p) st.challenge (others_at setup fresh (is_free st.peers) along st) (own_task p)) turn.fit
-      ∙ (ap (λ (t : Task). turn_output setup st.clock fresh (kind_of p) st.challenge (others_at setup fresh (is_free st.peers) along st) t) (own_same p turn.free) ∙ output_asked setup fresh (kind_of p) st (others_at setup fresh (is_free st.peers) along st) p.task some turn.free)),
+          ∙ (ap (λ (t : Task). turn_output setup st.clock fresh (kind_of p) st.challenge (others_at setup fresh (is_free st.peers) along st) t) (own_same p turn.free) ∙ output_asked setup fresh (kind_of p) st (others_at setup fresh (is_free st.peers) along st) p.task some turn.free)),
       subst (λ (s : State). list_any (is_renewed st.clock p.wants p.address) s.peers ≡ true)
           (sym (ap (λ (s : Step). (step setup s.state later other (responds setup.server fresh true Done)).state) asked
           ∙ (cond-true (is_endpoint setup.server setup.server && is_active st.phase) (answered_any setup fresh true Done after) after (and_from (is_endpoint setup.server setup.server) (is_active st.phase) (endpoint_is_itself setup.server) active)

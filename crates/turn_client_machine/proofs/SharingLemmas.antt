@@ -3,7 +3,7 @@ use Rattle.std.proofs.Common.{◌≡◌, ℕ, ◌+◌, ◌-◌, ◌<◌, ◌≤�
 use Rattle.std.specs.List.{list_any}
 use Rattle.std.specs.Option.{option_map, option_map_or}
 use Rattle.std.specs.Prelude.{◌==◌, max, nat_lt, is_some, if◌then◌else◌}
-use Rattle.std.proofs.lemmas.Bool.{cond_both, cond-true, cond-false, and_from, cases_Bool, true≢false, false_from_ne_true}
+use Rattle.std.proofs.lemmas.Bool.{cond_both, cond-true, cond-false, and_from, or_from, or_right, cases_Bool, true≢false, false_from_ne_true}
 use Rattle.stun_endpoints.proofs.AddressesLemmas.{endpoint_is_itself}
 use Rattle.turn_machine.specs.Lists.{SomeOf}
 use Rattle.turn_client_machine.specs.Clients.{Endpoint, is_endpoint, seconds, Setup, Kind, Permit, Request, Pending, Phase, Allocated, Rejected, Task, Peer, State, is_allocated, is_active, is_peer}
@@ -102,8 +102,8 @@ waiting_renewed : (address : Endpoint) (r : Request) (p : Peer) → IsWaiting ad
 waiting_renewed address r p w =
     let o = pending_for r p.task.pending w.awaits in
     let it : granted p ≡ granted_by r (Permit p.address) p =
-        ap (λ (x : Option Pending). option_map_or (λ (q : Pending). granted_by q.request q.request.kind p) x p) o.is
-        ∙ (ap (λ (x : Request). granted_by x x.kind p) o.same ∙ ap (λ (k : Kind). granted_by r k p) w.kind) in
+    ap (λ (x : Option Pending). option_map_or (λ (q : Pending). granted_by q.request q.request.kind p) x p) o.is
+    ∙ (ap (λ (x : Request). granted_by x x.kind p) o.same ∙ ap (λ (k : Kind). granted_by r k p) w.kind) in
     subst (λ (q : Peer). is_renewed r.since false address q ≡ true) (sym it) (permit_renewed address r p p.address w.here w.on)
 
 -- a response to a request for peers
@@ -132,10 +132,12 @@ now_alone clock code p on shared instead =
     (λ _. and_from (is_endpoint p.address p.address) _ (endpoint_is_itself p.address) (and_from (not p.over) _ (ap not on) (and_from p.shared true shared refl)))
     (λ isnt. absurd (true≢false (sym instead ∙ isnt)))
 
-pub all_alone : (setup : Setup) (state : State) (now fresh code : ℕ) (r : Request) (p : Peer) → state.phase ≡ Allocated → awaits r.id state.task ≡ false → (code ≡ 437 → ⊥) → p.shared ≡ true → asks_instead code p ≡ true
+pub all_alone : (setup : Setup) (state : State) (now fresh code : ℕ) (r : Request) (p : Peer) → state.phase ≡ Allocated → awaits r.id state.task ≡ false → (code ≡ 437 → ⊥) → (code ≡ 401 → ⊥) → (code ≡ 438 → ⊥) → p.shared ≡ true
     → IsWaiting p.address r p → SomeOf (λ q. q ≡ p) state.peers
     → list_any (is_alone p.address) (step setup state now fresh (responds setup.server r.id true (Refused code))).state.peers ≡ true
-all_alone setup state now fresh code r p phase other kept shared instead w some =
+all_alone setup state now fresh code r p phase other kept allowed_401 allowed_438 shared w some =
+    let instead : asks_instead code p ≡ true = and_from (p.wants || p.shared) (not ((code == 401) || (code == 438))) (or_right p.wants p.shared shared)
+    (ap not (or_from (code == 401) (code == 438) (false_from_ne_true (code == 401) (λ is. allowed_401 (eqb-true code 401 is))) (false_from_ne_true (code == 438) (λ is. allowed_438 (eqb-true code 438 is))))) in
     let st = at now state in
     let alone = is_alone p.address in
     let down = turned_down st.clock code in

@@ -171,8 +171,8 @@ along_works setup fresh free s p along same =
     let may : may_send setup (own_task p) ≡ true = ap (λ (n : ℕ). nat_lt n setup.most_sends) (none_pending (own_task p).pending (none_own p.shared p.task.pending (not-true (is_under_way p) idle.0))) ∙ some in
     let r = request_now s.clock fresh (kind_of p) s.challenge (own_task p) in
     let sent : asks r others ≡ nothing =
-        sym (cond-false (is_expired s.clock p.task) nothing (turn_output setup s.clock fresh (kind_of p) s.challenge others (own_task p)) (not-true (is_expired s.clock p.task) early)
-        ∙ cond-true (may_send setup (own_task p)) (asks r others) nothing may) ∙ ap (λ (x : Step). x.output) same in
+    sym (cond-false (is_expired s.clock p.task) nothing (turn_output setup s.clock fresh (kind_of p) s.challenge others (own_task p)) (not-true (is_expired s.clock p.task) early)
+    ∙ cond-true (may_send setup (own_task p)) (asks r others) nothing may) ∙ ap (λ (x : Step). x.output) same in
     absurd cc
 
 peer_works : (setup : Setup) (fresh : ℕ) (free : Bool) (s : State) (p : Peer) → find (is_next free s.clock) s.peers ≡ Some p → turns_peer setup fresh free s p ≡ keeps s → ⊥

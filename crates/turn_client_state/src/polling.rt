@@ -68,11 +68,13 @@ impl ClientState {
 
     /// The turn of a peer, and of those that its request takes along.
     fn turn_next(&mut self, fresh: u128, free: bool, along: bool) -> ArrayVec<Endpoint, 15>
-        ensures state { self.new ≡ record self.old { state = record self.old.state {
-          peers = steps.joined (setup_of self.old.settings) self.old.state.clock fresh
-              self.old.state.challenge (steps.most_others (setup_of self.old.settings) along)
-              (steps.turned_first (setup_of self.old.settings) fresh free along self.old.state);
-        } } }
+        ensures state { self.new ≡ record self.old {
+          state = record self.old.state {
+            peers = steps.joined (setup_of self.old.settings) self.old.state.clock fresh
+                self.old.state.challenge (steps.most_others (setup_of self.old.settings) along)
+                (steps.turned_first (setup_of self.old.settings) fresh free along self.old.state);
+          };
+        } }
         ensures others { result.items
             ≡ steps.others_at (setup_of self.old.settings) fresh free along self.old.state }
     {
@@ -81,7 +83,8 @@ impl ClientState {
         let turn = Change::Turn(along, settings, clock, fresh, challenge);
         self.peers.change(&Sought::Next(free, clock), &turn);
         let most = most_others(&settings, along);
-        self.peers.join_all(&settings, clock, fresh, challenge, most)
+        self.peers
+            .join_all(&settings, clock, fresh, challenge, most)
     }
 
     /// The turn of a peer, if something is to be done for one.

@@ -7,7 +7,6 @@ ghost use Rattle.turn_client_machine.specs.Clients.{Setup, State, Endpoint, Requ
 ghost use Rattle.turn_client_machine.specs.Events.{responds, Done, Refused};
 ghost use Rattle.turn_client_machine.specs.Identified.{AreDistinct, IsUnderWay};
 ghost use Rattle.turn_client_machine.specs.Renewing.{is_renewed};
-ghost use Rattle.turn_client_machine.specs.Responses.{asks_instead};
 ghost use Rattle.turn_client_machine.specs.Runs.{Timed, run, happening};
 ghost use Rattle.turn_client_machine.specs.Sharing.{NamesFew, IsWaiting, is_alone};
 ghost use Rattle.turn_client_machine.specs.Steps.{step, others_at, takes_along};
@@ -29,7 +28,7 @@ pub fn peers_share_requests()
         (step setup state now fresh (responds setup.server r.id true Done)).state.peers ≡ true }
     ensures refused { (setup : Setup) (state : State) (now fresh code : ℕ) (r : Request)
         (p : Peer) → state.phase ≡ Allocated → awaits r.id state.task ≡ false
-        → (code ≡ 437 → ⊥) → p.shared ≡ true → asks_instead code p ≡ true
+        → (code ≡ 437 → ⊥) → (code ≡ 401 → ⊥) → (code ≡ 438 → ⊥) → p.shared ≡ true
         → IsWaiting p.address r p → SomeOf (λ q. q ≡ p) state.peers
         → list_any (is_alone p.address)
         (step setup state now fresh (responds setup.server r.id true (Refused code))).state.peers
