@@ -78,6 +78,17 @@ TYPES = {
     "allocation_head": "CAllocationHead",
     "allocation_change": "CAllocationChange",
     "allocation_attempt": "CAttempt",
+    "ice": "CIce",
+    "ice_settings": "CIceSettings",
+    "ice_base": "CIceBase",
+    "ice_remote": "CIceRemote",
+    "ice_received": "CIceReceived",
+    "ice_request": "CIceRequest",
+    "ice_path": "CIcePath",
+    "ice_standing": "CIceStanding",
+    "ice_checked": "CIcePair",
+    "ice_change": "CIceChange",
+    "ice_candidate": "CIceCandidate",
 }
 # Fields that have another name in Rattle.
 NAMES = {"type": ("atype", "mtype"), "message_class": ("class",), "at": ("place",)}
@@ -249,7 +260,7 @@ def declared():
 def in_c(kind):
     """What a type of Rattle may be in C: the types of one field, or of two, for each."""
     names = {of: name for name, of in TYPES.items()}
-    if kind in ("KeyPlace", "TurnPlace", "AllocationPlace"):
+    if kind in ("KeyPlace", "TurnPlace", "AllocationPlace", "IcePlace"):
         return [("*void",)]
     many = re.fullmatch(r"&'a \[(\w+)\]", kind)
     if many:

@@ -12,7 +12,7 @@
  *
  * The first byte of an input says what it is: a message to be read, one that is right and is changed,
  * a run of adds, a stream that is cut, ChannelData, numbers, keys, nonces, a request with
- * credentials, a challenge, calls of transactions, or what comes to a TURN server. What the library answers is compared with
+ * credentials, a challenge, calls of transactions, what comes to a TURN server or client, or to an ICE agent. What the library answers is compared with
  * tests/model.h and its kin, which follow docs/PROTOCOL.md. Slices end at a page that may not be
  * touched. */
 #include <stdio.h>
@@ -37,7 +37,8 @@ static void (*const subjects[])(source *from)
     = {check_any,         check_changed,    check_changed,      check_changed,     check_writing,
        check_writing,     check_stream,     check_channel_data, check_numbers,     check_keys,
        check_credentials, check_challenges, check_nonces,       check_transactions,
-       check_turn,        check_turn,       check_turn,        check_allocations};
+       check_turn,        check_turn,       check_turn,        check_allocations,
+       check_ice};
 
 int LLVMFuzzerTestOneInput(const uint8_t *data, size_t size) {
     source from;

@@ -13,7 +13,7 @@ from checks import HERE, TOP, part, run
 
 DOCUMENTS = ("share/doc/stun_types/LICENSE-APACHE", "share/doc/stun_types/LICENSE-MIT")
 # What c/install --programs writes.
-PROGRAMS = sorted([*(f"{folder}{name}{end}" for name in ("stun-client", "stun-turn-client")
+PROGRAMS = sorted([*(f"{folder}{name}{end}" for name in ("stun-client", "stun-turn-client", "stun-ice")
                      for folder, end in (("bin/", ""), ("share/man/man1/", ".1"))), *DOCUMENTS])
 # A project for CMake that links the example messages.c with each library.
 CMAKE = """\

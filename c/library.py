@@ -36,6 +36,12 @@ VERDICTS = {
     "allocation_data",
     "allocation_head",
     "allocation_change",
+    "ice_received",
+    "ice_request",
+    "ice_path",
+    "ice_standing",
+    "ice_checked",
+    "ice_change",
 }
 ZEROS = {
     ("stun_types_transaction_begin", "transaction"),

@@ -124,7 +124,8 @@ def fast_clock(folder, speed):
 
 def client_sources(name):
     """The sources of a program of c/programs."""
-    return [HERE / f"programs/{it}.c" for it in ("options", "connection", "requests", name)]
+    more = sorted((HERE / "programs").glob("ice_*.c")) if name == "stun_ice" else []
+    return [*(HERE / f"programs/{it}.c" for it in ("options", "connection", "requests", name)), *more]
 
 
 def lint(page):

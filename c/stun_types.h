@@ -2,7 +2,8 @@
  *
  * - A slice is a pointer and its length in bytes, or its count of elements: two parameters, or two
  *   fields of a struct that is passed in. A slice of length 0 may be NULL. Every other pointer is valid
- *   and not NULL, but for those of stun_types_key_free, stun_types_turn_free and stun_types_allocation_free.
+ *   and not NULL, but for those of stun_types_key_free, stun_types_turn_free, stun_types_allocation_free and
+ *   stun_types_ice_free.
  *   Messages are uint8_t; a text or a value that is passed in may be char or uint8_t (const void *).
  * - What a call writes, a slice or a struct, overlaps no other argument of it, nor a slice in a struct
  *   that is passed in. A call compares the addresses before all else: if it would write what overlaps
@@ -10,7 +11,7 @@
  *   stun_types_turn_ended and stun_types_turn_end_user return 0.
  * - No call keeps a pointer, prints, blocks or aborts. Only the calls whose comments say so
  *   allocate (by malloc), and at most twice the bytes of their arguments and 1,024 more at once;
- *   stun_types_turn_new and stun_types_allocation_new allocate more. All may run in several threads at once. One key may be used
+ *   stun_types_turn_new, stun_types_allocation_new and stun_types_ice_new allocate more. All may run in several threads at once. One key may be used
  *   by any number of calls at once that take it as const stun_types_key *; a call that takes it as
  *   stun_types_key * makes or frees it, and has it alone.
  * - Numbers in messages are big-endian; numbers in these structs are the machine's.
@@ -19,14 +20,15 @@
  *   comment lists first; OUT_OF_MEMORY may come before the last of them.
  * - No zero permits anything. A verdict is a struct of type stun_types_validated,
  *   stun_types_authentication, stun_types_action, stun_types_received, stun_types_turn_action,
- *   stun_types_turn_delivery, stun_types_allocation_data, stun_types_allocation_head or
- *   stun_types_allocation_change: a call that fails fills it with zeros, which say that nothing is
+ *   stun_types_turn_delivery, stun_types_allocation_data, stun_types_allocation_head,
+ *   stun_types_allocation_change, stun_types_ice_received, stun_types_ice_request, stun_types_ice_path,
+ *   stun_types_ice_standing, stun_types_ice_checked or stun_types_ice_change: a call that fails fills it with zeros, which say that nothing is
  *   decided or done; of stun_types_turn_client see there. stun_types_transaction_begin zeroes its
  *   transaction likewise, and the two calls that report a stun_types_covered zero it. A
  *   stun_types_policy of zeros lets both algorithms count, as RFC 8489 does. If an argument of an
  *   enumeration has no meaning for 0, 0 is BAD_ARGUMENT.
  * - A password or a key of no bytes is BAD_ARGUMENT: anybody can sign with it.
- * - Arguments are tested. Only a key, a TURN server and a TURN client have to be what the library made (see
+ * - Arguments are tested. Only a key, a TURN server, a TURN client and an ICE agent have to be what the library made (see
  *   Keys).
  * - The layout of the structs is part of the ABI. `reserved` is for fields of later versions: it is 0
  *   in what is passed in, or the call returns BAD_ARGUMENT, and 0 in what a call writes. So begin a
@@ -1717,6 +1719,307 @@ STUN_TYPES_NODISCARD STUN_TYPES_NONNULL((1, 2))
 bool stun_types_allocation_attempt_next(stun_types_allocation_attempt *attempt,
                                         const stun_types_allocation_change *ended);
 
+/* ---- An ICE agent (RFC 8445) -------------------------------------------------------------------- */
+
+/* An ICE agent without sockets and without a clock, on the heap (RFC 8445; candidates may come at any time,
+   RFC 8838). It checks the pairs of its bases and of the peer's candidates, answers the peer's checks,
+   nominates as the controlling agent, and keeps the peer's consent (RFC 7675). It begins as
+   STUN_TYPES_ICE_INIT, is made by stun_types_ice_new, which frees what it held before, and ended by
+   stun_types_ice_free. C neither reads nor writes nor copies its fields; whether a struct holds an agent is
+   seen as with a key. Each call has it alone.
+   now is a monotonic clock of the caller's, in nanoseconds since any moment that stays the same; a clock
+   that steps back counts as stopped.
+   An event loop passes each datagram of its bases to stun_types_ice_datagram, and sends the response that
+   it writes, if there is one. After each call that takes now, and at *wake, it calls stun_types_ice_poll and
+   sends what that writes, until request.length is 0, and then stun_types_ice_changes until that returns
+   false. Data goes where stun_types_ice_route says. A restart (section 9) is a new agent, with other
+   credentials. */
+typedef struct {
+    void *at;
+    uint64_t held;
+} stun_types_ice;
+
+#define STUN_TYPES_ICE_INIT { NULL, 0 }
+
+/* STUN_TYPES_ICE_INIT, for languages that read no macros. */
+STUN_TYPES_NODISCARD
+stun_types_ice stun_types_ice_none(void);
+
+/* The role of an agent (section 6.1.1). */
+typedef STUN_TYPES_ENUM(stun_types_ice_role) {
+    STUN_TYPES_ICE_CONTROLLING = 1, /* it nominates pairs: it made the offer, or the peer is a lite agent */
+    STUN_TYPES_ICE_CONTROLLED = 2
+} stun_types_ice_role;
+
+/* What an agent is made by. Zeros, but for the texts, the tiebreaker and the role, are what RFC 8445
+   recommends. */
+typedef struct {
+    const void *ufrag;         /* the text of its username fragment: 4 to 256 letters, digits, + and /, of
+                                  24 random bits at least (section 5.3) */
+    size_t ufrag_length;
+    const void *password;      /* the text of its password: 22 to 256 of these, of 128 random bits */
+    size_t password_length;
+    const void *software;      /* the text of the SOFTWARE of checks */
+    size_t software_length;    /* 0: they have none */
+    uint64_t tiebreaker;       /* 64 random bits (section 7.3.1.1) */
+    stun_types_ice_role role;
+    uint32_t pairs;            /* the most pairs, at most 4,096; 0: 100 */
+    uint32_t candidates;       /* the most bases, and the most candidates of the peer, at most 4,096; 0: 32 */
+    uint32_t requests;         /* the most requests that a response is waited for, at most 4,096; 0: 200 */
+    uint32_t ta;               /* the time between two requests, in milliseconds; below 5 it is 5; 0: 50 */
+    uint32_t rto;              /* the wait after the first request of a check, in milliseconds, which doubles;
+                                  below 500 it is 500; 0: 500 */
+    uint32_t patience;         /* for how many milliseconds a controlling agent waits for a pair of greater
+                                  priority after one has succeeded; 0: 200 */
+    uint32_t tries;            /* the most requests of a check without a response, at most 32; 0: 5 */
+    uint64_t reserved;
+} stun_types_ice_settings;
+
+/* Makes an agent with no candidates. It keeps copies of all that it is given, and takes all the memory that
+   it ever keeps but for the peer's credentials.
+   BAD_ARGUMENT: a number of the settings, or no byte of password. INVALID_DATA: ufrag or password is none.
+   INVALID_DATA, TOO_LARGE: the software isn't UTF-8, or has more than 763 bytes. Allocates: OUT_OF_MEMORY.
+   If the call fails, the agent stays as it was. */
+STUN_TYPES_NODISCARD STUN_TYPES_NONNULL((1, 2))
+stun_types_answer stun_types_ice_new(stun_types_ice *agent, const stun_types_ice_settings *settings);
+
+/* Frees these agents, one after the other in memory, overwriting their keys, and leaves STUN_TYPES_ICE_INIT
+   for each. */
+void stun_types_ices_free(stun_types_ice *agents, size_t count);
+
+/* The same with one agent. With STUN_TYPES_ICE_INIT, and with NULL, it does nothing. */
+static inline void stun_types_ice_free(stun_types_ice *agent) {
+    stun_types_ices_free(agent, agent ? 1 : 0);
+}
+
+/* The username fragment and the password that the peer has signalled. Before this call checks of the peer
+   are answered, and none is sent.
+   BAD_ARGUMENT: there is no agent, or no byte of password. INVALID_DATA: ufrag or password is none. EXISTS:
+   the agent has the peer's credentials, and keeps those. Allocates: OUT_OF_MEMORY. */
+STUN_TYPES_NODISCARD STUN_TYPES_NONNULL((1))
+stun_types_answer stun_types_ice_set_peer(stun_types_ice *agent, uint64_t now, const void *ufrag,
+                                          size_t ufrag_length, const void *password, size_t password_length);
+
+/* What an agent sends from and receives at (section 4): a socket, or an allocation at a TURN server. A
+   server-reflexive candidate is signalled, and is no base: what it would send goes from its base. */
+typedef struct {
+    uint32_t number;             /* of the caller's choice */
+    uint32_t foundation;         /* of its candidate, a number of the caller's choice for each foundation */
+    uint32_t priority;           /* of its candidate: 2^24 * type preference + 2^8 * local preference + 256
+                                    - component (section 5.1.2.1). Type preferences are 126 for a host
+                                    candidate, 110 for a peer-reflexive one, 100, and 0 for a relayed one */
+    uint32_t reflexive_priority; /* of the peer-reflexive candidates that its checks discover: the same with
+                                    a type preference of 110 (section 7.1.1) */
+    uint16_t component;          /* a number for each component of each data stream; only candidates of one
+                                    component are paired */
+    uint16_t family;             /* of its address: 4 or 6 */
+    uint16_t link_local;         /* not 0: it has an IPv6 link-local address, and is paired with such alone */
+    uint16_t reserved;
+} stun_types_ice_base;
+
+/* A candidate of the peer. */
+typedef struct {
+    stun_types_address address;
+    uint32_t foundation;         /* a number for each foundation of the peer; not 0 */
+    uint32_t priority;
+    uint16_t component;
+    uint16_t reserved;
+} stun_types_ice_remote;
+
+/* Adds a base, or a candidate of the peer, and pairs it. They may come at any time and in any order.
+   BAD_ARGUMENT, and nothing has changed: there is no agent, a family is neither 4 nor 6, or foundation is 0
+   in a candidate of the peer. FULL: there is no room for it. EXISTS: there is a base of this number, or a
+   candidate of the peer with this component and address. It allocates nothing. */
+STUN_TYPES_NODISCARD STUN_TYPES_NONNULL((1, 3))
+stun_types_answer stun_types_ice_add_base(stun_types_ice *agent, uint64_t now,
+                                          const stun_types_ice_base *base);
+
+STUN_TYPES_NODISCARD STUN_TYPES_NONNULL((1, 3))
+stun_types_answer stun_types_ice_add_remote(stun_types_ice *agent, uint64_t now,
+                                            const stun_types_ice_remote *remote);
+
+/* Notes the address of a candidate that the caller signals, host, server-reflexive or relayed, so that it
+   isn't reported as discovered. The same codes. */
+STUN_TYPES_NODISCARD STUN_TYPES_NONNULL((1, 2))
+stun_types_answer stun_types_ice_add_address(stun_types_ice *agent, const stun_types_address *address);
+
+/* No more candidates follow, of this agent or of the peer: from now on a component may fail.
+   BAD_ARGUMENT: there is no agent. It allocates nothing. */
+STUN_TYPES_NODISCARD STUN_TYPES_NONNULL((1))
+stun_types_answer stun_types_ice_end_candidates(stun_types_ice *agent, uint64_t now);
+
+typedef STUN_TYPES_ENUM(stun_types_ice_kind) {
+    STUN_TYPES_ICE_NOTHING = 0,  /* it was the agent's, or nobody's */
+    STUN_TYPES_ICE_RESPONSE = 1, /* send out[0 .. length) from the same base to where it came from */
+    STUN_TYPES_ICE_DATA = 2      /* the datagram is the peer's data, of component */
+} stun_types_ice_kind;
+
+/* What comes of a datagram. The fields that kind doesn't name are 0. */
+typedef struct {
+    size_t length;
+    stun_types_ice_kind kind;
+    uint16_t component;
+    uint16_t reserved;
+} stun_types_ice_received;
+
+/* Takes a datagram that came to the base of this number, from an address; what comes from a TURN server is
+   unwrapped first. random: 64 random bits, new at each call: the next tiebreaker if the peer answers a check
+   with 487. 128 bytes have room for any response, but for a 420 that lists more than 20 types.
+   BAD_ARGUMENT, and nothing has changed: there is no agent, or the family of from is neither 4 nor 6.
+   TOO_SMALL: out has no room for the response; the datagram counts, and the response is lost. TOO_LARGE: a
+   420 would list more types than a message has room for. It allocates nothing. */
+STUN_TYPES_NODISCARD STUN_TYPES_NONNULL((1, 4, 10))
+stun_types_answer stun_types_ice_datagram(stun_types_ice *agent, uint64_t now, uint32_t base,
+                                          const stun_types_address *from, const uint8_t *datagram,
+                                          size_t length, uint64_t random, uint8_t *out, size_t size,
+                                          stun_types_ice_received *received);
+
+/* A request that is to be sent: out[0 .. length), from base to to. length 0: there is none. */
+typedef struct {
+    size_t length;
+    stun_types_address to;
+    uint32_t base;
+} stun_types_ice_request;
+
+/* Writes the request that is to be sent now. Nothing is to be sent before *wake, unless another call comes
+   first; UINT64_MAX: never. id: random, new at each call; it is the transaction ID. 700 bytes have room for
+   any request without SOFTWARE.
+   TOO_SMALL: the request counts as sent, and lost. BAD_ARGUMENT, and *wake stays: there is no agent. It
+   allocates nothing. */
+STUN_TYPES_NODISCARD STUN_TYPES_NONNULL((1, 3, 6, 7))
+stun_types_answer stun_types_ice_poll(stun_types_ice *agent, uint64_t now, const stun_types_id *id,
+                                      uint8_t *out, size_t size, stun_types_ice_request *request,
+                                      uint64_t *wake);
+
+/* Where data goes. */
+typedef struct {
+    stun_types_address to;
+    uint32_t base;
+} stun_types_ice_path;
+
+/* Where data of a component goes now: true. False, and the path is zeros: no pair is selected, or the peer
+   hasn't consented within the last 30 seconds (RFC 7675, section 5.1), or there is no agent; data must not
+   be sent. Ask for each datagram, or for each batch. It allocates nothing. */
+STUN_TYPES_NODISCARD STUN_TYPES_NONNULL((1, 4))
+bool stun_types_ice_route(stun_types_ice *agent, uint64_t now, uint16_t component, stun_types_ice_path *path);
+
+typedef STUN_TYPES_ENUM(stun_types_ice_progress) {
+    STUN_TYPES_ICE_CHECKING = 1,  /* no pair is selected yet */
+    STUN_TYPES_ICE_CONNECTED = 2, /* a pair is selected */
+    STUN_TYPES_ICE_FAILED = 3,    /* no pair is left that may be selected, and no candidates follow */
+    STUN_TYPES_ICE_LOST = 4       /* the peer's consent has expired, and no pair is selected: restart */
+} stun_types_ice_progress;
+
+/* What a component has come to. */
+typedef struct {
+    stun_types_ice_path path;         /* CONNECTED: of the selected pair; otherwise zeros */
+    stun_types_ice_progress progress;
+    stun_types_ice_role role;         /* the agent's, which a role conflict may have changed */
+    size_t pairs;                     /* how many pairs the agent has, of all components */
+} stun_types_ice_standing;
+
+/* What a component has come to at the latest moment of a call: true. False, and all zeros: there is no
+   agent. It allocates nothing. */
+STUN_TYPES_NODISCARD STUN_TYPES_NONNULL((1, 3))
+bool stun_types_ice_status(stun_types_ice *agent, uint16_t component, stun_types_ice_standing *standing);
+
+/* The states of pairs (RFC 8445, section 6.1.2.6). */
+typedef STUN_TYPES_ENUM(stun_types_ice_pair_state) {
+    STUN_TYPES_ICE_PAIR_FROZEN = 1,
+    STUN_TYPES_ICE_PAIR_WAITING = 2,
+    STUN_TYPES_ICE_PAIR_IN_PROGRESS = 3,
+    STUN_TYPES_ICE_PAIR_SUCCEEDED = 4,
+    STUN_TYPES_ICE_PAIR_FAILED = 5,
+    STUN_TYPES_ICE_PAIR_LOST = 6 /* the peer's consent for it has expired */
+} stun_types_ice_pair_state;
+
+/* A candidate pair. */
+typedef struct {
+    uint64_t until;           /* when the peer's consent for it expires; 0: it hasn't succeeded yet */
+    stun_types_address remote;
+    uint32_t base;
+    uint32_t priority;        /* of the base's candidate */
+    uint32_t remote_priority; /* of the peer's */
+    stun_types_ice_pair_state state;
+    uint16_t component;
+    uint16_t tries;           /* how many requests were sent since it was last waiting */
+    uint16_t triggered;       /* 1: it is in the triggered-check queue (section 6.1.4.1) */
+    uint16_t nominated;       /* 1: it is nominated */
+} stun_types_ice_checked;
+
+/* The pair of this number, from 0, the newest first, as it is at the latest moment of a call: true. False,
+   and all zeros: there are no more, or there is no agent. It allocates nothing. */
+STUN_TYPES_NODISCARD STUN_TYPES_NONNULL((1, 3))
+bool stun_types_ice_pair(stun_types_ice *agent, uint32_t number, stun_types_ice_checked *pair);
+
+typedef STUN_TYPES_ENUM(stun_types_ice_change_kind) {
+    STUN_TYPES_ICE_UNCHANGED = 0,
+    STUN_TYPES_ICE_ROLE = 1,         /* the agent has this role now */
+    STUN_TYPES_ICE_CONSENT_LOST = 2, /* the peer's consent for a pair of component, of base and address, has
+                                        expired: nothing is sent by it any more */
+    STUN_TYPES_ICE_PROGRESS = 3,     /* component has this progress now; CONNECTED: by base and address */
+    STUN_TYPES_ICE_SELECTED = 4,     /* component, which stays connected, has another pair, of base and
+                                        address */
+    STUN_TYPES_ICE_DISCOVERED = 5    /* the peer sees base at this address, which no candidate has: a
+                                        peer-reflexive candidate of this agent (section 7.2.5.3.1) */
+} stun_types_ice_change_kind;
+
+/* The fields that kind doesn't name are 0. */
+typedef struct {
+    stun_types_address address;
+    uint32_t base;
+    stun_types_ice_change_kind kind;
+    stun_types_ice_progress progress;
+    stun_types_ice_role role;
+    uint16_t component;
+    uint16_t reserved;
+} stun_types_ice_change;
+
+/* A difference between what the agent is and what the calls before have reported, if there is one; true
+   then, and it counts as reported. Of changes that undo each other between two calls nothing is reported.
+   False, and all zeros: there is none, or there is no agent. It allocates nothing. */
+STUN_TYPES_NODISCARD STUN_TYPES_NONNULL((1, 2))
+bool stun_types_ice_changes(stun_types_ice *agent, stun_types_ice_change *change);
+
+/* ---- Candidates as lines of text (RFC 8839, section 5.1) ---------------------------------------- */
+
+/* The type of a candidate (RFC 8445, section 5.1.1). */
+typedef STUN_TYPES_ENUM(stun_types_ice_candidate_kind) {
+    STUN_TYPES_ICE_OTHER_KIND = 0, /* another one, to be ignored */
+    STUN_TYPES_ICE_HOST = 1,
+    STUN_TYPES_ICE_SERVER_REFLEXIVE = 2,
+    STUN_TYPES_ICE_PEER_REFLEXIVE = 3,
+    STUN_TYPES_ICE_RELAYED = 4
+} stun_types_ice_candidate_kind;
+
+/* A candidate. */
+typedef struct {
+    uint8_t foundation[32];         /* 1 to 32 letters, digits, + and /, and zeros after them */
+    uint16_t foundation_length;     /* how many they are */
+    uint16_t component;             /* 1 to 256 */
+    uint32_t priority;              /* 1 to 2^31 - 1 */
+    stun_types_address address;     /* family 0: the name of a host, as the .local names of browsers, the
+                                       fifth word of the line, at this port */
+    stun_types_address related;     /* family 0: none, or the name of a host */
+    stun_types_transport transport; /* 0: another one, to be ignored */
+    stun_types_ice_candidate_kind kind;
+} stun_types_ice_candidate;
+
+/* Reads a candidate from the line of its attribute, with or without a= before it, and without the end of
+   the line. What follows the related address, as generation or ufrag, is checked, and not reported.
+   INVALID_DATA: the line is none. */
+STUN_TYPES_NODISCARD STUN_TYPES_NONNULL((3))
+stun_types_answer stun_types_ice_candidate_read(const void *line, size_t length,
+                                                stun_types_ice_candidate *candidate);
+
+/* Writes the line of a candidate's attribute, without a=, at the start of text, which has size bytes.
+   BAD_ARGUMENT: a field of the candidate, of a family other than 4 and 6 in address, and other than these
+   and 0 in related. TOO_SMALL: text has the first bytes of it, and *written is size; 200 bytes have room
+   for any. */
+STUN_TYPES_NODISCARD STUN_TYPES_NONNULL((1, 4))
+stun_types_answer stun_types_ice_candidate_write(const stun_types_ice_candidate *candidate, char *text,
+                                                 size_t size, size_t *written);
+
 /* ---- Layout ----------------------------------------------------------------------------------- */
 
 /* A program that lays out a type otherwise than the library (-fshort-enums, -fpack-struct, another
@@ -1748,6 +2051,12 @@ STUN_TYPES_LAYOUT(turn_kind_size, sizeof(stun_types_turn_kind) == 4);
 STUN_TYPES_LAYOUT(allocation_wish_size, sizeof(stun_types_allocation_wish) == 4);
 STUN_TYPES_LAYOUT(allocation_change_kind_size, sizeof(stun_types_allocation_change_kind) == 4);
 STUN_TYPES_LAYOUT(allocation_end_size, sizeof(stun_types_allocation_end) == 4);
+STUN_TYPES_LAYOUT(ice_role_size, sizeof(stun_types_ice_role) == 4);
+STUN_TYPES_LAYOUT(ice_kind_size, sizeof(stun_types_ice_kind) == 4);
+STUN_TYPES_LAYOUT(ice_progress_size, sizeof(stun_types_ice_progress) == 4);
+STUN_TYPES_LAYOUT(ice_pair_state_size, sizeof(stun_types_ice_pair_state) == 4);
+STUN_TYPES_LAYOUT(ice_change_kind_size, sizeof(stun_types_ice_change_kind) == 4);
+STUN_TYPES_LAYOUT(ice_candidate_kind_size, sizeof(stun_types_ice_candidate_kind) == 4);
 STUN_TYPES_LAYOUT(answer_size, sizeof(stun_types_answer) == 24);
 STUN_TYPES_LAYOUT(answer_code, offsetof(stun_types_answer, code) == 0);
 STUN_TYPES_LAYOUT(answer_type, offsetof(stun_types_answer, type) == 4);
@@ -1993,6 +2302,86 @@ STUN_TYPES_LAYOUT(allocation_attempt_server, offsetof(stun_types_allocation_atte
 STUN_TYPES_LAYOUT(allocation_attempt_before, offsetof(stun_types_allocation_attempt, before) == 20);
 STUN_TYPES_LAYOUT(allocation_attempt_tries, offsetof(stun_types_allocation_attempt, tries) == 80);
 STUN_TYPES_LAYOUT(allocation_attempt_servers, offsetof(stun_types_allocation_attempt, servers) == 82);
+STUN_TYPES_LAYOUT(ice_size, sizeof(stun_types_ice) == 16);
+STUN_TYPES_LAYOUT(ice_at, offsetof(stun_types_ice, at) == 0);
+STUN_TYPES_LAYOUT(ice_held, offsetof(stun_types_ice, held) == 8);
+STUN_TYPES_LAYOUT(ice_settings_size, sizeof(stun_types_ice_settings) == 96);
+STUN_TYPES_LAYOUT(ice_settings_ufrag, offsetof(stun_types_ice_settings, ufrag) == 0);
+STUN_TYPES_LAYOUT(ice_settings_ufrag_length, offsetof(stun_types_ice_settings, ufrag_length) == 8);
+STUN_TYPES_LAYOUT(ice_settings_password, offsetof(stun_types_ice_settings, password) == 16);
+STUN_TYPES_LAYOUT(ice_settings_password_length, offsetof(stun_types_ice_settings, password_length) == 24);
+STUN_TYPES_LAYOUT(ice_settings_software, offsetof(stun_types_ice_settings, software) == 32);
+STUN_TYPES_LAYOUT(ice_settings_software_length, offsetof(stun_types_ice_settings, software_length) == 40);
+STUN_TYPES_LAYOUT(ice_settings_tiebreaker, offsetof(stun_types_ice_settings, tiebreaker) == 48);
+STUN_TYPES_LAYOUT(ice_settings_role, offsetof(stun_types_ice_settings, role) == 56);
+STUN_TYPES_LAYOUT(ice_settings_pairs, offsetof(stun_types_ice_settings, pairs) == 60);
+STUN_TYPES_LAYOUT(ice_settings_candidates, offsetof(stun_types_ice_settings, candidates) == 64);
+STUN_TYPES_LAYOUT(ice_settings_requests, offsetof(stun_types_ice_settings, requests) == 68);
+STUN_TYPES_LAYOUT(ice_settings_ta, offsetof(stun_types_ice_settings, ta) == 72);
+STUN_TYPES_LAYOUT(ice_settings_rto, offsetof(stun_types_ice_settings, rto) == 76);
+STUN_TYPES_LAYOUT(ice_settings_patience, offsetof(stun_types_ice_settings, patience) == 80);
+STUN_TYPES_LAYOUT(ice_settings_tries, offsetof(stun_types_ice_settings, tries) == 84);
+STUN_TYPES_LAYOUT(ice_settings_reserved, offsetof(stun_types_ice_settings, reserved) == 88);
+STUN_TYPES_LAYOUT(ice_base_size, sizeof(stun_types_ice_base) == 24);
+STUN_TYPES_LAYOUT(ice_base_number, offsetof(stun_types_ice_base, number) == 0);
+STUN_TYPES_LAYOUT(ice_base_foundation, offsetof(stun_types_ice_base, foundation) == 4);
+STUN_TYPES_LAYOUT(ice_base_priority, offsetof(stun_types_ice_base, priority) == 8);
+STUN_TYPES_LAYOUT(ice_base_reflexive_priority, offsetof(stun_types_ice_base, reflexive_priority) == 12);
+STUN_TYPES_LAYOUT(ice_base_component, offsetof(stun_types_ice_base, component) == 16);
+STUN_TYPES_LAYOUT(ice_base_family, offsetof(stun_types_ice_base, family) == 18);
+STUN_TYPES_LAYOUT(ice_base_link_local, offsetof(stun_types_ice_base, link_local) == 20);
+STUN_TYPES_LAYOUT(ice_base_reserved, offsetof(stun_types_ice_base, reserved) == 22);
+STUN_TYPES_LAYOUT(ice_remote_size, sizeof(stun_types_ice_remote) == 32);
+STUN_TYPES_LAYOUT(ice_remote_address, offsetof(stun_types_ice_remote, address) == 0);
+STUN_TYPES_LAYOUT(ice_remote_foundation, offsetof(stun_types_ice_remote, foundation) == 20);
+STUN_TYPES_LAYOUT(ice_remote_priority, offsetof(stun_types_ice_remote, priority) == 24);
+STUN_TYPES_LAYOUT(ice_remote_component, offsetof(stun_types_ice_remote, component) == 28);
+STUN_TYPES_LAYOUT(ice_remote_reserved, offsetof(stun_types_ice_remote, reserved) == 30);
+STUN_TYPES_LAYOUT(ice_received_size, sizeof(stun_types_ice_received) == 16);
+STUN_TYPES_LAYOUT(ice_received_length, offsetof(stun_types_ice_received, length) == 0);
+STUN_TYPES_LAYOUT(ice_received_kind, offsetof(stun_types_ice_received, kind) == 8);
+STUN_TYPES_LAYOUT(ice_received_component, offsetof(stun_types_ice_received, component) == 12);
+STUN_TYPES_LAYOUT(ice_received_reserved, offsetof(stun_types_ice_received, reserved) == 14);
+STUN_TYPES_LAYOUT(ice_request_size, sizeof(stun_types_ice_request) == 32);
+STUN_TYPES_LAYOUT(ice_request_length, offsetof(stun_types_ice_request, length) == 0);
+STUN_TYPES_LAYOUT(ice_request_to, offsetof(stun_types_ice_request, to) == 8);
+STUN_TYPES_LAYOUT(ice_request_base, offsetof(stun_types_ice_request, base) == 28);
+STUN_TYPES_LAYOUT(ice_path_size, sizeof(stun_types_ice_path) == 24);
+STUN_TYPES_LAYOUT(ice_path_to, offsetof(stun_types_ice_path, to) == 0);
+STUN_TYPES_LAYOUT(ice_path_base, offsetof(stun_types_ice_path, base) == 20);
+STUN_TYPES_LAYOUT(ice_standing_size, sizeof(stun_types_ice_standing) == 40);
+STUN_TYPES_LAYOUT(ice_standing_path, offsetof(stun_types_ice_standing, path) == 0);
+STUN_TYPES_LAYOUT(ice_standing_progress, offsetof(stun_types_ice_standing, progress) == 24);
+STUN_TYPES_LAYOUT(ice_standing_role, offsetof(stun_types_ice_standing, role) == 28);
+STUN_TYPES_LAYOUT(ice_standing_pairs, offsetof(stun_types_ice_standing, pairs) == 32);
+STUN_TYPES_LAYOUT(ice_checked_size, sizeof(stun_types_ice_checked) == 56);
+STUN_TYPES_LAYOUT(ice_checked_until, offsetof(stun_types_ice_checked, until) == 0);
+STUN_TYPES_LAYOUT(ice_checked_remote, offsetof(stun_types_ice_checked, remote) == 8);
+STUN_TYPES_LAYOUT(ice_checked_base, offsetof(stun_types_ice_checked, base) == 28);
+STUN_TYPES_LAYOUT(ice_checked_priority, offsetof(stun_types_ice_checked, priority) == 32);
+STUN_TYPES_LAYOUT(ice_checked_remote_priority, offsetof(stun_types_ice_checked, remote_priority) == 36);
+STUN_TYPES_LAYOUT(ice_checked_state, offsetof(stun_types_ice_checked, state) == 40);
+STUN_TYPES_LAYOUT(ice_checked_component, offsetof(stun_types_ice_checked, component) == 44);
+STUN_TYPES_LAYOUT(ice_checked_tries, offsetof(stun_types_ice_checked, tries) == 46);
+STUN_TYPES_LAYOUT(ice_checked_triggered, offsetof(stun_types_ice_checked, triggered) == 48);
+STUN_TYPES_LAYOUT(ice_checked_nominated, offsetof(stun_types_ice_checked, nominated) == 50);
+STUN_TYPES_LAYOUT(ice_change_size, sizeof(stun_types_ice_change) == 40);
+STUN_TYPES_LAYOUT(ice_change_address, offsetof(stun_types_ice_change, address) == 0);
+STUN_TYPES_LAYOUT(ice_change_base, offsetof(stun_types_ice_change, base) == 20);
+STUN_TYPES_LAYOUT(ice_change_kind, offsetof(stun_types_ice_change, kind) == 24);
+STUN_TYPES_LAYOUT(ice_change_progress, offsetof(stun_types_ice_change, progress) == 28);
+STUN_TYPES_LAYOUT(ice_change_role, offsetof(stun_types_ice_change, role) == 32);
+STUN_TYPES_LAYOUT(ice_change_component, offsetof(stun_types_ice_change, component) == 36);
+STUN_TYPES_LAYOUT(ice_change_reserved, offsetof(stun_types_ice_change, reserved) == 38);
+STUN_TYPES_LAYOUT(ice_candidate_size, sizeof(stun_types_ice_candidate) == 88);
+STUN_TYPES_LAYOUT(ice_candidate_foundation, offsetof(stun_types_ice_candidate, foundation) == 0);
+STUN_TYPES_LAYOUT(ice_candidate_foundation_length, offsetof(stun_types_ice_candidate, foundation_length) == 32);
+STUN_TYPES_LAYOUT(ice_candidate_component, offsetof(stun_types_ice_candidate, component) == 34);
+STUN_TYPES_LAYOUT(ice_candidate_priority, offsetof(stun_types_ice_candidate, priority) == 36);
+STUN_TYPES_LAYOUT(ice_candidate_address, offsetof(stun_types_ice_candidate, address) == 40);
+STUN_TYPES_LAYOUT(ice_candidate_related, offsetof(stun_types_ice_candidate, related) == 60);
+STUN_TYPES_LAYOUT(ice_candidate_transport, offsetof(stun_types_ice_candidate, transport) == 80);
+STUN_TYPES_LAYOUT(ice_candidate_kind, offsetof(stun_types_ice_candidate, kind) == 84);
 /* (until here) */
 #undef STUN_TYPES_LAYOUT
 

@@ -173,5 +173,6 @@ void check_challenges(source *from);
 void check_transactions(source *from);
 void check_turn(source *from);
 void check_allocations(source *from);
+void check_ice(source *from);
 
 #endif

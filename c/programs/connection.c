@@ -102,6 +102,10 @@ int open_server(void) {
     return say(STATUS_SILENT, "%s: %s", asked.server.host, strerror(errno));
 }
 
+int server_socket(void) {
+    return server;
+}
+
 void close_server(void) {
     disconnect();
     if (found != NULL) freeaddrinfo(found);

@@ -1,4 +1,4 @@
-/* The arguments of both programs. */
+/* The arguments of the programs. */
 #include "program.h"
 
 #include <stdarg.h>

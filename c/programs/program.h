@@ -1,4 +1,4 @@
-/* What stun-client and stun-turn-client share. Each file includes it first. */
+/* What stun-client, stun-turn-client and stun-ice share. Each file includes it first. */
 #ifndef PROGRAM_H
 #define PROGRAM_H
 
@@ -23,7 +23,7 @@ typedef struct {
     char port[6];
 } target;
 
-/* What both programs take. */
+/* What the programs take. */
 typedef struct {
     const char *program; /* its name, for messages */
     target server;
@@ -94,6 +94,9 @@ int move_to(const stun_types_address *to);
 
 /* The address of the server that is connected; false: there is none any more. */
 bool find_server(stun_types_address *address);
+
+/* The socket that is connected; -1: none is. */
+int server_socket(void);
 
 void close_server(void);
 

@@ -15,7 +15,7 @@ static const struct {
     {"hmacs", test_hmacs}, {"writing", test_writing}, {"servers", test_servers}, {"clients", test_clients},
     {"streams", test_streams}, {"nulls", test_nulls}, {"calls", test_calls},
     {"overlaps", test_overlaps}, {"turn", test_turn}, {"turn_answers", test_turn_answers},
-    {"allocations", test_allocations},
+    {"allocations", test_allocations}, {"ice", test_ice},
 };
 
 static int is_asked(int count, char **arguments, const char *name) {

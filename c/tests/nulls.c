@@ -306,6 +306,46 @@ static void test_turn_clients(void) {
     stun_types_allocations_free(NULL, 0);
 }
 
+static void test_ice_agents(void) {
+    static const stun_types_ice none = STUN_TYPES_ICE_INIT;
+    static const stun_types_ice_settings no_settings;
+    static const stun_types_ice_candidate candidate
+        = {"1", 1, 1, 1, AN_ADDRESS, NO_ADDRESS, STUN_TYPES_UDP, STUN_TYPES_ICE_HOST};
+    stun_types_ice_settings *settings = NEW(stun_types_ice_settings);
+    stun_types_ice *agent = NEW(stun_types_ice);
+    stun_types_ice_received *received = NEW(stun_types_ice_received);
+    stun_types_ice_request *request = NEW(stun_types_ice_request);
+    stun_types_ice_candidate *read = NEW(stun_types_ice_candidate);
+    uint64_t *wake = NEW(uint64_t);
+    size_t *written = NEW(size_t);
+    const slice fragment = text("evtj"), password = text("VOkJxbRl1RmTxUk/WvJxBt");
+    *agent = none;
+    heap_allow(true);
+    ANSWERS(stun_types_ice_new(agent, &no_settings), PLAIN(STUN_TYPES_BAD_ARGUMENT));
+    memset(settings, 0, sizeof *settings);
+    settings->ufrag = fragment.bytes;
+    settings->ufrag_length = fragment.length;
+    settings->password = password.bytes;
+    settings->password_length = password.length;
+    settings->role = STUN_TYPES_ICE_CONTROLLED;
+    ANSWERS(stun_types_ice_new(agent, settings), OK_ANSWER);
+    ANSWERS(stun_types_ice_set_peer(agent, 0, NULL, 0, password.bytes, password.length),
+            PLAIN(STUN_TYPES_INVALID_DATA));
+    ANSWERS(stun_types_ice_set_peer(agent, 0, fragment.bytes, fragment.length, NULL, 0),
+            PLAIN(STUN_TYPES_BAD_ARGUMENT));
+    ANSWERS(stun_types_ice_datagram(agent, 0, 1, &address, NULL, 0, 0, NULL, 0, received), OK_ANSWER);
+    CHECK(is_zero(received, sizeof *received));
+    ANSWERS(stun_types_ice_poll(agent, 0, &id, NULL, 0, request, wake), OK_ANSWER);
+    CHECK(is_zero(request, sizeof *request) && *wake == UINT64_MAX);
+    heap_allow(false);
+    stun_types_ice_free(agent);
+    stun_types_ices_free(NULL, 0);
+    ANSWERS(stun_types_ice_candidate_read(NULL, 0, read), PLAIN(STUN_TYPES_INVALID_DATA));
+    ANSWERS(stun_types_ice_candidate_write(&candidate, NULL, 0, written),
+            LENGTHS(STUN_TYPES_TOO_SMALL, 44, 0));
+    CHECK(*written == 0);
+}
+
 void test_nulls(void) {
     row("slices that are NULL", "that are read");
     test_read();
@@ -325,4 +365,6 @@ void test_nulls(void) {
     test_turn_servers();
     row("slices that are NULL", "of TURN clients");
     test_turn_clients();
+    row("slices that are NULL", "of ICE agents");
+    test_ice_agents();
 }

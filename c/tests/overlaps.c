@@ -13,10 +13,10 @@ enum { ARGUMENTS = 9, APART = 512 };
 
 /* An argument of a call: what it is for the call, how many bytes it has, at which multiples it is
    aligned, and what it begins with, in hexadecimal; zeros follow. Of a call that is refused, verdicts are
-   zeros, and nothing else has changed. SERVER is a TURN server, and CLIENT a TURN client, which are made for
-   all calls. */
+   zeros, and nothing else has changed. SERVER is a TURN server, CLIENT a TURN client, and AGENT an ICE agent,
+   which are made for all calls. */
 typedef struct {
-    enum { READ = 1, WRITTEN, VERDICT, KEY, SERVER, CLIENT } is;
+    enum { READ = 1, WRITTEN, VERDICT, KEY, SERVER, CLIENT, AGENT } is;
     size_t size, align;
     const char *begins;
 } argument;
@@ -170,6 +170,16 @@ CALL(allocation_poll) { REPORT(stun_types_allocation_poll(at[0], 0, at[1], at[2]
 CALL(allocation_send) {
     REPORT(stun_types_allocation_send(at[0], 0, 3, at[1], at[2], at[3], STUN_TYPES_ALLOCATION_HEAD, at[4]));
 }
+CALL(ice_new) { REPORT(stun_types_ice_new(at[0], at[1])); }
+CALL(ice_set_peer) { REPORT(stun_types_ice_set_peer(at[0], 0, at[1], 4, at[2], 22)); }
+CALL(ice_add_base) { REPORT(stun_types_ice_add_base(at[0], 0, at[1])); }
+CALL(ice_add_remote) { REPORT(stun_types_ice_add_remote(at[0], 0, at[1])); }
+CALL(ice_add_address) { REPORT(stun_types_ice_add_address(at[0], at[1])); }
+CALL(ice_datagram) { REPORT(stun_types_ice_datagram(at[0], 0, 1, at[1], at[2], 28, 0, at[3], 64, at[4])); }
+CALL(ice_poll) { REPORT(stun_types_ice_poll(at[0], 0, at[1], at[2], 40, at[3], at[4])); }
+CALL(ice_status) { REPORT_BOOL(stun_types_ice_status(at[0], 1, at[1])); }
+CALL(ice_candidate_read) { REPORT(stun_types_ice_candidate_read(at[0], 4, at[1])); }
+CALL(ice_candidate_write) { REPORT(stun_types_ice_candidate_write(at[0], at[1], 40, at[2])); }
 CALL(attempt_next) { REPORT_BOOL(stun_types_allocation_attempt_next(at[0], at[1])); }
 
 /* Puts the slices into a struct that is passed. */
@@ -223,11 +233,21 @@ static void names(void *const *at) {
     it->software_length = 2;
 }
 
+static void logs_in(void *const *at) {
+    stun_types_ice_settings *it = at[1];
+    it->ufrag = at[2];
+    it->ufrag_length = 4;
+    it->password = at[3];
+    it->password_length = 22;
+    it->software = at[4];
+    it->software_length = 2;
+}
+
 static const struct {
     uint64_t (*call)(void *const *at);
     void (*put)(void *const *at);
 } structs[] = {{refuse_long_term, asks}, {turn_new, sets}, {turn_set_rules, rules}, {turn_client, comes},
-               {allocation_new, names}};
+               {allocation_new, names}, {ice_new, logs_in}};
 
 /* ---- the calls, and what they are given: answers that aren't REFUSED, if no arguments overlap */
 
@@ -251,6 +271,7 @@ static const struct {
 #define HMAC {READ, sizeof(stun_types_hmac), 4, "08000000"}
 #define TURN_SERVER {SERVER, sizeof(stun_types_turn), 8, ""}
 #define TURN_CLIENT {CLIENT, sizeof(stun_types_allocation), 8, ""}
+#define ICE_AGENT {AGENT, sizeof(stun_types_ice), 8, ""}
 
 static const guarded_call calls[] = {
     {"stun_types_framed_length", framed_length, {BYTES(20, HEADER), COUNTED}},
@@ -395,6 +416,29 @@ static const guarded_call calls[] = {
     {"stun_types_allocation_attempt_next", attempt_next,
      {LEFT(sizeof(stun_types_allocation_attempt), "00*18 0400"),
       GIVEN(sizeof(stun_types_allocation_change), "00*16 08000000 03000000 00*82 B501")}},
+    /* (the fragment is none) */
+    {"stun_types_ice_new", ice_new,
+     {LEFT(sizeof(stun_types_ice), ""), GIVEN(sizeof(stun_types_ice_settings), "00*56 01000000"),
+      BYTES(4, "FF*4"), BYTES(22, ""), BYTES(2, "")}},
+    {"stun_types_ice_set_peer", ice_set_peer, {ICE_AGENT, BYTES(4, "FF*4"), BYTES(22, "")}},
+    {"stun_types_ice_add_base", ice_add_base,
+     {ICE_AGENT, {READ, sizeof(stun_types_ice_base), 4, "00*18 0400"}}},
+    {"stun_types_ice_add_remote", ice_add_remote,
+     {ICE_AGENT, {READ, sizeof(stun_types_ice_remote), 4, "00*18 0400 01000000"}}},
+    {"stun_types_ice_add_address", ice_add_address,
+     {ICE_AGENT, {READ, sizeof(stun_types_address), 2, "00*18 0400"}}},
+    {"stun_types_ice_datagram", ice_datagram,
+     {ICE_AGENT, ADDRESS, BYTES(28, USER), ROOM(64, ""), ZEROED(sizeof(stun_types_ice_received))}},
+    {"stun_types_ice_poll", ice_poll,
+     {ICE_AGENT, BYTES(sizeof(stun_types_id), ""), ROOM(40, ""), ZEROED(sizeof(stun_types_ice_request)),
+      LEFT(8, "")}},
+    {"stun_types_ice_status", ice_status, {ICE_AGENT, ZEROED(sizeof(stun_types_ice_standing))}},
+    {"stun_types_ice_candidate_read", ice_candidate_read,
+     {BYTES(4, "FF*4"), {WRITTEN, sizeof(stun_types_ice_candidate), 4, ""}}},
+    {"stun_types_ice_candidate_write", ice_candidate_write,
+     {{READ, sizeof(stun_types_ice_candidate), 4,
+       "31 00*31 0100 0100 01000000 00*18 0400 00*18 0000 01000000 01000000"},
+      ROOM(40, ""), LEFT(8, "")}},
 };
 
 /* ---- the arguments, in one block of memory */
@@ -500,6 +544,55 @@ static void make_client(stun_types_allocation *client) {
     heap_allow(false);
 }
 
+/* Makes the agent that calls are given: it has the candidates that they add. */
+static void make_agent(stun_types_ice *agent) {
+    static const stun_types_ice none = STUN_TYPES_ICE_INIT;
+    static const stun_types_ice_base base = {0, 0, 0, 0, 0, 4, 0, 0};
+    static const stun_types_ice_remote remote = {{{0}, 0, 4}, 1, 0, 0, 0};
+    stun_types_ice_settings settings;
+    memset(&settings, 0, sizeof settings);
+    settings.ufrag = "evtj";
+    settings.ufrag_length = 4;
+    settings.password = "VOkJxbRl1RmTxUk/WvJxBt";
+    settings.password_length = 22;
+    settings.role = STUN_TYPES_ICE_CONTROLLED;
+    *agent = none;
+    heap_allow(true);
+    ANSWERS(stun_types_ice_new(agent, &settings), OK_ANSWER);
+    heap_allow(false);
+    ANSWERS(stun_types_ice_add_base(agent, 0, &base), OK_ANSWER);
+    ANSWERS(stun_types_ice_add_remote(agent, 0, &remote), OK_ANSWER);
+    ANSWERS(stun_types_ice_add_address(agent, &remote.address), OK_ANSWER);
+}
+
+/* Calls of an agent that return false: a path, a pair or a change of which the first or the last bytes are the
+   agent's is zeros. */
+static void test_agent(const stun_types_ice *agent) {
+    static uint64_t at[40];
+    static const struct {
+        const char *name;
+        size_t size;
+    } lefts[] = {{"stun_types_ice_route", sizeof(stun_types_ice_path) / 8},
+                 {"stun_types_ice_pair", sizeof(stun_types_ice_checked) / 8},
+                 {"stun_types_ice_changes", sizeof(stun_types_ice_change) / 8}};
+    size_t one;
+    int way;
+    for (one = 0; one < COUNT(lefts); one++) {
+        row("overlaps", lefts[one].name);
+        for (way = 0; way < 2; way++) {
+            void *const left = at + 10;
+            stun_types_ice *handle = (void *)(at + 10 + (way == 0 ? -1 : (int)lefts[one].size - 1));
+            bool result;
+            memset(at, FILL, sizeof at);
+            *handle = *agent;
+            if (one == 0) result = stun_types_ice_route(handle, 0, 1, left);
+            else if (one == 1) result = stun_types_ice_pair(handle, 0, left);
+            else result = stun_types_ice_changes(handle, left);
+            CHECK(!result && is_zero(left, lefts[one].size * 8));
+        }
+    }
+}
+
 /* A change of which the first or the last bytes are the client's is zeros, and is reported by the next call. */
 static void test_change(const stun_types_allocation *client) {
     static uint64_t at[40];
@@ -551,10 +644,12 @@ static void test_ends(void) {
 void test_overlaps(void) {
     stun_types_turn server;
     stun_types_allocation client;
+    stun_types_ice agent;
     size_t i, one, other;
-    row("arguments that overlap", "a TURN server and a TURN client are made");
+    row("arguments that overlap", "a TURN server, a TURN client and an ICE agent are made");
     make_server(&server);
     make_client(&client);
+    make_agent(&agent);
     for (i = 0; i < COUNT(calls); i++) {
         const guarded_call *it = &calls[i];
         const size_t count = count_of(it);
@@ -564,6 +659,7 @@ void test_overlaps(void) {
         for (one = 0; one < count; one++)
             begins[one] = it->arguments[one].is == SERVER   ? given(&server, sizeof server)
                           : it->arguments[one].is == CLIENT ? given(&client, sizeof client)
+                          : it->arguments[one].is == AGENT  ? given(&agent, sizeof agent)
                                                             : hex(it->arguments[one].begins);
         spread(at);
         apart = allowed(it, at);
@@ -576,5 +672,7 @@ void test_overlaps(void) {
     stun_types_turn_free(&server);
     test_change(&client);
     stun_types_allocation_free(&client);
+    test_agent(&agent);
+    stun_types_ice_free(&agent);
     test_ends();
 }

@@ -13,6 +13,7 @@ void test_streams(void);
 void test_turn(void);
 void test_turn_answers(void);
 void test_allocations(void);
+void test_ice(void);
 void test_nulls(void);
 void test_calls(void);
 void test_overlaps(void);

@@ -145,7 +145,7 @@ typedef struct {
 extern const verb verbs_of_parse[], verbs_of_show[], verbs_of_validate[], verbs_of_keys[],
     verbs_of_values[], verbs_of_write[], verbs_of_replies[], verbs_of_servers[], verbs_of_streams[],
     verbs_of_transactions[], verbs_of_authentication[], verbs_of_print[], verbs_of_turn[],
-    verbs_of_turn_datagrams[], verbs_of_responders[], verbs_of_allocations[];
+    verbs_of_turn_datagrams[], verbs_of_responders[], verbs_of_allocations[], verbs_of_ice_agents[];
 
 /* The words of the classes, by their numbers. */
 extern const char *const class_words[4];

@@ -27,6 +27,7 @@ static const verb *const tables[] = {
     verbs_of_values, verbs_of_write,   verbs_of_replies,  verbs_of_servers,
     verbs_of_streams, verbs_of_transactions, verbs_of_authentication, verbs_of_print,
     verbs_of_turn,   verbs_of_turn_datagrams, verbs_of_responders, verbs_of_allocations,
+    verbs_of_ice_agents,
 };
 
 /* ---- answers */

@@ -2,3 +2,4 @@ mod WritingLemmas
 mod ReadyLemmas
 mod RunsLemmas
 mod ReceivingLemmas
+mod RestartsLemmas

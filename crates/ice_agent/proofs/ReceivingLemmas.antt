@@ -14,12 +14,11 @@ use Rattle.ice_checks.specs.Judging.{refusal_to}
 use Rattle.ice_checks.specs.Views.{Logins, Response, Signing}
 use Rattle.ice_agent.specs.declared.receiving.Received.{Received}
 use Rattle.ice_agent.specs.Agents.{Agent}
-use Rattle.ice_agent.specs.Receiving.{IsReplied, Receives, judged, received, received_as, signing_by}
+use Rattle.ice_agent.specs.Receiving.{IsReplied, Receives, received_as, signing_by}
 
 -- the agent then
-pub takes_as : (agent next : Agent) (now fresh base : ℕ) (from : Endpoint) (d : List ℕ) (j : Judged) → judged agent base from d ≡ j
-    → next ≡ received_as j now fresh base from d agent → next ≡ received now fresh base from d agent
-takes_as agent next now fresh base from d j is e = e ∙ ap (λ (x : Judged). received_as x now fresh base from d agent) (sym is)
+pub takes_as : (agent next : Agent) (now fresh base : ℕ) (from : Endpoint) (d : List ℕ) (said j : Judged) → said ≡ j → next ≡ received_as j now fresh base from d agent → next ≡ received_as said now fresh base from d agent
+takes_as agent next now fresh base from d said j is e = e ∙ ap (λ (x : Judged). received_as x now fresh base from d agent) (sym is)
 
 signed_alike : (agent after : Agent) (signed_by : Option IntegrityAlgorithm) → after.logins ≡ agent.logins → option_map (signing_by after) signed_by ≡ option_map (signing_by agent) signed_by
 signed_alike agent after None same = refl

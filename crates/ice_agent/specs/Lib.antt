@@ -3,3 +3,4 @@ pub mod Writing
 pub mod Receiving
 pub mod Sending
 pub mod Runs
+pub mod Restarts

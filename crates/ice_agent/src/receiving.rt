@@ -6,7 +6,7 @@ ghost use Rattle.stun_endpoints.specs.declared.endpoints.Endpoint as endpoints;
 ghost use Rattle.ice_machine.specs.Events.{arrives, checks, responds, strays};
 ghost use Rattle.ice_agent_state.specs.Agents.{output_at};
 ghost use Rattle.ice_agent_state.specs.Outputs.{answered_with, data_of, refused_with};
-ghost use Rattle.ice_checks.specs.Judging.{code_of};
+ghost use Rattle.ice_checks.specs.Judging.{code_of, event_of};
 ghost use Rattle.ice_checks.specs.Views.{logins_of, response_of, signing_of};
 ghost use Rattle.ice_checks.specs.Checks.{signature_refusal};
 ghost use Rattle.stun_keys.specs.Keys.{key_algorithm};
@@ -79,7 +79,7 @@ impl Agent {
     }
 
     /// What a datagram is.
-    fn judged(&self, base: u32, from: Endpoint, datagram: &[u8]) -> Judged
+    pub(crate) fn judged(&self, base: u32, from: Endpoint, datagram: &[u8]) -> Judged
         ensures { result ≡ receiving.judged self.now base from datagram.now }
     {
         let requests = self.state.requests();
@@ -108,7 +108,7 @@ impl Agent {
     }
 
     /// A datagram that is no message of the session has arrived. Returns the component whose data it is.
-    fn arrive(&mut self, now: u64, base: u32, from: Endpoint) -> Option<u16>
+    pub(crate) fn arrive(&mut self, now: u64, base: u32, from: Endpoint) -> Option<u16>
         ensures state { (bytes : List ℕ) → self.new ≡ passes now 0 (arrives base from bytes) self.old }
         ensures data { (bytes : List ℕ)
             → output_at now 0 (arrives base from bytes) self.old.held ≡ data_of bytes result }
@@ -204,6 +204,47 @@ impl Agent {
         }
     }
 
+    /// Takes a datagram, by what it is for this agent.
+    pub(crate) fn take_judged<'d>(
+        &mut self,
+        alloc: Global,
+        now: u64,
+        base: u32,
+        from: Endpoint,
+        datagram: &'d [u8],
+        judged: &Judged,
+        random: u64,
+        out: &mut [u8],
+    ) -> Result<Received<'d>, StunWriteError>
+        ensures state { self.new ≡ received_as judged.now now random base from datagram.now self.old }
+        ensures result { Receives self.old datagram.now judged.now
+            (output_at now random (event_of base from datagram.now judged.now) self.old.held)
+            out.old out.new result }
+    {
+        match judged {
+            Judged::Arrives => match self.arrive(now, base, from) {
+                Some(component) => Ok(Received::Data(component, datagram)),
+                None => Ok(Received::Nothing),
+            },
+            Judged::Strays { .. } => {
+                self.stray(now, datagram.len(), None);
+                Ok(Received::Nothing)
+            }
+            Judged::Refused {
+                id,
+                refusal,
+                signed_by,
+            } => self.refuse(alloc, now, *id, datagram, *refusal, *signed_by, out),
+            Judged::Responds { id, answer, mapped } => {
+                self.respond(now, random, base, from, *id, *answer, *mapped);
+                Ok(Received::Nothing)
+            }
+            Judged::Checks { check, algorithm } => {
+                self.take_check(alloc, now, check, *algorithm, out)
+            }
+        }
+    }
+
     /// Takes a datagram that has arrived at a base, from an address. The datagram is neither copied nor changed.
     ///
     /// - A check of the peer is answered (RFC 8445, section 7.3), and so is a Binding request that isn't one, by
@@ -236,27 +277,7 @@ impl Agent {
             (output_at now random (event_at self.old base from datagram.now) self.old.held)
             out.old out.new result }
     {
-        match self.judged(base, from, datagram) {
-            Judged::Arrives => match self.arrive(now, base, from) {
-                Some(component) => Ok(Received::Data(component, datagram)),
-                None => Ok(Received::Nothing),
-            },
-            Judged::Strays { .. } => {
-                self.stray(now, datagram.len(), None);
-                Ok(Received::Nothing)
-            }
-            Judged::Refused {
-                id,
-                refusal,
-                signed_by,
-            } => self.refuse(alloc, now, id, datagram, refusal, signed_by, out),
-            Judged::Responds { id, answer, mapped } => {
-                self.respond(now, random, base, from, id, answer, mapped);
-                Ok(Received::Nothing)
-            }
-            Judged::Checks { check, algorithm } => {
-                self.take_check(alloc, now, &check, algorithm, out)
-            }
-        }
+        let judged = self.judged(base, from, datagram);
+        self.take_judged(alloc, now, base, from, datagram, &judged, random, out)
     }
 }

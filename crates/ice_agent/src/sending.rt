@@ -27,7 +27,7 @@ pub struct Sending {
 
 impl Agent {
     /// The request that is to be sent now.
-    fn request(&mut self, now: u64, id: TransactionId) -> Option<Request>
+    pub(crate) fn request(&mut self, now: u64, id: TransactionId) -> Option<Request>
         ensures state { self.new ≡ passes now id polls self.old }
         ensures request { output_at now id polls self.old.held ≡ asked_with result }
         ensures known { IfSome result (λ _. is_some self.new.logins.peer ≡ true) }
@@ -36,7 +36,7 @@ impl Agent {
     }
 
     /// Writes a request at the start of a slice.
-    fn write(
+    pub(crate) fn write(
         &self,
         alloc: Global,
         request: &Request,

@@ -3,4 +3,5 @@ pub mod ListsLemmas
 pub mod PairsLemmas
 pub mod AskedLemmas
 pub mod WakingLemmas
+pub mod QuietLemmas
 pub mod ReportsLemmas

@@ -57,21 +57,23 @@ settled_tried most setup now p t = cond_both (is_unanswered setup now p) _ _ (Is
 pub all_settled : (most : ℕ) (setup : Setup) (now : ℕ) (ps : List Pair) → AllByRecursion (IsTried most) ps → AllByRecursion (IsTried most) (map {B = Pair} (settled setup now) ps)
 all_settled most setup now = each_mapped (IsTried most) (settled setup now) (settled_tried most setup now)
 
-pub with_tried : (most room : ℕ) (p : Pair) (ps : List Pair) → IsTried most p → AllByRecursion (IsTried most) ps → AllByRecursion (IsTried most) (with_pair room p ps)
-with_tried most room p ps one each = cond_both (list_any (is_at p.base p.remote) ps || not (nat_lt (length ps) room)) _ _ (AllByRecursion (IsTried most)) (λ _. each) (λ _. (one, each))
+each_with : (P : Pair → Type 0) (room : ℕ) (p : Pair) (ps : List Pair) → P p → AllByRecursion P ps → AllByRecursion P (with_pair room p ps)
+each_with P room p ps one each = cond_both (list_any (is_at p.base p.remote) ps || not (nat_lt (length ps) room)) _ _ (AllByRecursion P) (λ _. each) (λ _. (one, each))
 
-pub with_new : {X : Type 0} (most room : ℕ) (new : X → Pair) → ((x : X) → IsTried most (new x)) → (xs : List X) (ps : List Pair) → AllByRecursion (IsTried most) ps → AllByRecursion (IsTried most) (with_pairs room (map {B = Pair} new xs) ps)
-with_new most room new f [] ps each = each
-with_new most room new f (x ∷ xs) ps each = with_tried most room (new x) (with_pairs room (map {B = Pair} new xs) ps) (f x) (with_new most room new f xs ps each)
+with_new : {X : Type 0} (P : Pair → Type 0) (room : ℕ) (new : X → Pair) → ((x : X) → P (new x)) → (xs : List X) (ps : List Pair) → AllByRecursion P ps → AllByRecursion P (with_pairs room (map {B = Pair} new xs) ps)
+with_new P room new f [] ps each = each
+with_new P room new f (x ∷ xs) ps each = each_with P room (new x) (with_pairs room (map {B = Pair} new xs) ps) (f x) (with_new P room new f xs ps each)
 
 pub pair_of_tried : (most : ℕ) (b : Base) (r : Remote) → IsTried most (pair_of b r)
 pair_of_tried most b r = (refl, refl)
 
-pub base_tried : (most room : ℕ) (b : Base) (rs : List Remote) (ps qs : List Pair) → qs ≡ with_pairs room (map {B = Pair} (pair_of b) (filter (fits b) rs)) ps → AllByRecursion (IsTried most) ps → AllByRecursion (IsTried most) qs
-base_tried most room b rs ps qs is each = subst (AllByRecursion (IsTried most)) (sym is) (with_new most room (pair_of b) (pair_of_tried most b) (filter (fits b) rs) ps each)
+pub base_each : (P : Pair → Type 0) → ((b : Base) (r : Remote) → P (pair_of b r)) → (room : ℕ) (b : Base) (rs : List Remote) (ps qs : List Pair) → qs ≡ with_pairs room (map {B = Pair} (pair_of b) (filter (fits b) rs)) ps
+    → AllByRecursion P ps → AllByRecursion P qs
+base_each P f room b rs ps qs is each = subst (AllByRecursion P) (sym is) (with_new P room (pair_of b) (f b) (filter (fits b) rs) ps each)
 
-pub remote_tried : (most room : ℕ) (r : Remote) (bs : List Base) (ps qs : List Pair) → qs ≡ with_pairs room (map {B = Pair} (λ b. pair_of b r) (filter (λ b. fits b r) bs)) ps → AllByRecursion (IsTried most) ps → AllByRecursion (IsTried most) qs
-remote_tried most room r bs ps qs is each = subst (AllByRecursion (IsTried most)) (sym is) (with_new most room (λ b. pair_of b r) (λ b. pair_of_tried most b r) (filter (λ b. fits b r) bs) ps each)
+pub remote_each : (P : Pair → Type 0) → ((b : Base) (r : Remote) → P (pair_of b r)) → (room : ℕ) (r : Remote) (bs : List Base) (ps qs : List Pair) → qs ≡ with_pairs room (map {B = Pair} (λ b. pair_of b r) (filter (λ b. fits b r) bs)) ps
+    → AllByRecursion P ps → AllByRecursion P qs
+remote_each P f room r bs ps qs is each = subst (AllByRecursion P) (sym is) (with_new P room (λ b. pair_of b r) (λ b. f b r) (filter (λ b. fits b r) bs) ps each)
 
 -- ---- No two pairs of one place
 
@@ -84,16 +86,19 @@ base_distinct room b rs ps qs is distinct = subst AreDistinct (sym is) ((goes_wi
 pub remote_distinct : (room : ℕ) (r : Remote) (bs : List Base) (ps qs : List Pair) → qs ≡ with_pairs room (map {B = Pair} (λ b. pair_of b r) (filter (λ b. fits b r) bs)) ps → AreDistinct ps → AreDistinct qs
 remote_distinct room r bs ps qs is distinct = subst AreDistinct (sym is) ((goes_with_all room (map {B = Pair} (λ b. pair_of b r) (filter (λ b. fits b r) bs)) ps).distinct distinct)
 
+pub new_distinct : (room : ℕ) (p : Pair) (ps qs : List Pair) → qs ≡ with_pair room p ps → AreDistinct ps → AreDistinct qs
+new_distinct room p ps qs is distinct = subst AreDistinct (sym is) ((goes_with room p ps).distinct distinct)
+
 -- ---- A check of the peer
 
 triggers_tried : (most : ℕ) (p : Pair) → IsTried most p → IsTried most (triggers p)
 triggers_tried most p t = cond_both (is_succeeded p.state || is_lost p.state) _ _ (IsTried most) (λ _. t) (λ _. refl)
 
-heard_tried : (most : ℕ) (role : Role) (c : Check) (p : Pair) → IsTried most p → IsTried most (heard role c p)
+pub heard_tried : (most : ℕ) (role : Role) (c : Check) (p : Pair) → IsTried most p → IsTried most (heard role c p)
 heard_tried most role c p t = cond_both (c.nominates && (not (is_controlling role) && not (is_lost p.state))) (record p { heard = true; nominated = true }) (record p { heard = true }) (λ (q : Pair). IsTried most (triggers q))
     (λ _. triggers_tried most (record p { heard = true; nominated = true }) t) (λ _. triggers_tried most (record p { heard = true }) t)
 
-each_changed : (P : Pair → Type 0) (test : Pair → Bool) (change : Pair → Pair) → ((p : Pair) → P p → P (change p)) → (ps : List Pair) → AllByRecursion P ps → AllByRecursion P (changed_first test change ps)
+pub each_changed : (P : Pair → Type 0) (test : Pair → Bool) (change : Pair → Pair) → ((p : Pair) → P p → P (change p)) → (ps : List Pair) → AllByRecursion P ps → AllByRecursion P (changed_first test change ps)
 each_changed P test change f [] each = each
 each_changed P test change f (p ∷ ps) each = cond_both (test p) (change p ∷ ps) (p ∷ changed_first test change ps) (AllByRecursion P) (λ _. (f p each.0, each.1)) (λ _. (each.0, each_changed P test change f ps each.1))
 
@@ -103,8 +108,9 @@ unnominated_each most = each_mapped (IsTried most) unnominated (λ p t. t)
 pub unnominated_distinct : (ps : List Pair) → AreDistinct ps → AreDistinct (map {B = Pair} unnominated ps)
 unnominated_distinct ps distinct = (keeps_map unnominated unnominated_left ps).distinct distinct
 
-pub heard_each : (most room : ℕ) (role : Role) (c : Check) (b : Base) (r : Remote) (ps : List Pair) → AllByRecursion (IsTried most) ps → AllByRecursion (IsTried most) (changed_first (is_at c.base c.from) (heard role c) (with_pair room (pair_of b r) ps))
-heard_each most room role c b r ps each = each_changed (IsTried most) (is_at c.base c.from) (heard role c) (heard_tried most role c) (with_pair room (pair_of b r) ps) (with_tried most room (pair_of b r) ps (pair_of_tried most b r) each)
+pub heard_each : (P : Pair → Type 0) → ((b : Base) (r : Remote) → P (pair_of b r)) → (room : ℕ) (role : Role) (c : Check) → ((p : Pair) → P p → P (heard role c p)) → (b : Base) (r : Remote) (ps : List Pair)
+    → AllByRecursion P ps → AllByRecursion P (changed_first (is_at c.base c.from) (heard role c) (with_pair room (pair_of b r) ps))
+heard_each P f room role c g b r ps each = each_changed P (is_at c.base c.from) (heard role c) g (with_pair room (pair_of b r) ps) (each_with P room (pair_of b r) ps (f b r) each)
 
 pub heard_distinct : (room : ℕ) (role : Role) (c : Check) (b : Base) (r : Remote) (ps : List Pair) → AreDistinct ps → AreDistinct (changed_first (is_at c.base c.from) (heard role c) (with_pair room (pair_of b r) ps))
 heard_distinct room role c b r ps distinct = (keeps_changed (is_at c.base c.from) (heard role c) (heard_left role c) (with_pair room (pair_of b r) ps)).distinct ((goes_with room (pair_of b r) ps).distinct distinct)

@@ -27,7 +27,7 @@ or_true : (b : Bool) → (b || true) ≡ true
 or_true true = refl
 or_true false = refl
 
-or_parts : (a b : Bool) → (a || b) ≡ false → (a ≡ false) × (b ≡ false)
+pub or_parts : (a b : Bool) → (a || b) ≡ false → (a ≡ false) × (b ≡ false)
 or_parts true b is = absurd cc
 or_parts false b is = (refl, is)
 
@@ -47,7 +47,7 @@ same_pair setup now p isnt =
     cond-false (is_unanswered setup now p) (record p { state = Failed }) (cond (is_over now p) (record p { state = Lost; triggered = false; chosen = false }) p) parts.0
     ∙ cond-false (is_over now p) (record p { state = Lost; triggered = false; chosen = false }) p parts.1
 
-same_pairs : (setup : Setup) (now : ℕ) (ps : List Pair) → some_by (ends_by setup) ps now ≡ false → map {B = Pair} (settled setup now) ps ≡ ps
+pub same_pairs : (setup : Setup) (now : ℕ) (ps : List Pair) → some_by (ends_by setup) ps now ≡ false → map {B = Pair} (settled setup now) ps ≡ ps
 same_pairs setup now [] isnt = refl
 same_pairs setup now (p ∷ ps) isnt =
     let parts = or_parts (ends_by setup p now) (some_by (ends_by setup) ps now) isnt in
@@ -128,7 +128,7 @@ eventful_when held now later is = elim (cases_Bool (some_by (ends_by held.setup)
 abbrev happens_by : Held → (now : ℕ) → Bool
 happens_by held now = some_by (ends_by held.setup) held.state.pairs now || asks_by held.setup held.state now
 
-early : (m now : ℕ) → now < m → nat_le m now ≡ false
+pub early : (m now : ℕ) → now < m → nat_le m now ≡ false
 early m now before = grind (arith, nat_tests)
 
 quiet_before : (held : Held) (now : ℕ) → held.state.clock ≤ now → happens_by held now ≡ false → IsQuiet held now

@@ -4,6 +4,8 @@ pub mod Best
 pub mod Outputs
 pub mod Changes
 pub mod Waking
+pub mod Quiet
+pub mod Places
 pub mod Statuses
 pub mod Reports
 pub mod Restarts

@@ -7,7 +7,7 @@ ghost use Rattle.ice_machine.specs.Steps.{at};
 ghost use Rattle.ice_agent_state.specs.Agents.{setup_of, Held, after};
 
 use crate::settings::Settings;
-use crate::settling::{drop_late, settle_all};
+use crate::settling::{drop_late, moment_of, settle_all, waited_until};
 use ice_machine::{Base, Pair, Remote, Request, Role};
 use std::alloc::{AllocError, Global};
 use std::marker::Model;
@@ -69,6 +69,10 @@ pub struct AgentState {
     pub(crate) pairs: Vec<Pair>,
     pub(crate) requests: Vec<Request>,
     pub(crate) next_request_at: u128,
+    /// Until when time changes no pair and no request.
+    pub(crate) quiet_until: u128,
+    /// The place of the pair that a check or data came from last, as a guess.
+    pub(crate) latest: usize,
 }
 
 impl Model for AgentState {
@@ -78,6 +82,7 @@ impl Model for AgentState {
     ghost use Rattle.ice_agent_state.specs.Agents.{Held, setup_of};
     ghost use Rattle.ice_machine.specs.Bounds.{AreDistinct};
     ghost use Rattle.ice_agent_state.specs.Tried.{IsTried};
+    ghost use Rattle.ice_agent_state.specs.Quiet.{IsSteady, StaysAwaited};
 
     ghost Value = { Held };
 
@@ -107,6 +112,8 @@ impl Model for AgentState {
       tries : a.settings.most_tries ≤ 32;
       distinct : AreDistinct a.pairs.items;
       tried : AllByRecursion (IsTried (max 1 a.settings.most_tries)) a.pairs.items;
+      steady : AllByRecursion (IsSteady (setup_of a.settings) a.quiet_until) a.pairs.items;
+      awaited : AllByRecursion (StaysAwaited a.quiet_until) a.requests.items;
     } };
 }
 
@@ -148,6 +155,8 @@ impl AgentState {
             pairs,
             requests,
             next_request_at: 0,
+            quiet_until: 0,
+            latest: 0,
         })
     }
 
@@ -158,13 +167,36 @@ impl AgentState {
         self.role
     }
 
-    /// Lets time pass until a moment.
-    pub(crate) fn advance(&mut self, now: u64)
+    /// Lets time pass until a moment, in each pair and each request.
+    fn settle(&mut self, now: u64)
         ensures { self.new ≡ record self.old { state = at self.old.setup now self.old.state } }
     {
+        self.quiet_until = 0;
         self.clock = self.clock.max(now as u128);
         settle_all(&self.settings, self.clock, &mut self.pairs);
         drop_late(&mut self.requests, self.clock);
+    }
+
+    /// Finds until when time changes nothing.
+    fn look_ahead(&mut self)
+        ensures { self.new ≡ self.old }
+    {
+        let loss = moment_of(self.first_loss());
+        self.quiet_until = loss.min(waited_until(&self.requests));
+    }
+
+    /// Lets time pass until a moment. Goes through the pairs and the requests only if it changes one of them, or
+    /// if it isn't known until when it changes none.
+    pub(crate) fn advance(&mut self, now: u64)
+        ensures { self.new ≡ record self.old { state = at self.old.setup now self.old.state } }
+    {
+        let clock = self.clock.max(now as u128);
+        if clock < self.quiet_until {
+            self.clock = clock;
+            return;
+        }
+        self.settle(now);
+        self.look_ahead();
     }
 
     /// The peer's username fragment and password are known: requests may be sent.

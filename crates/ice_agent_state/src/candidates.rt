@@ -12,6 +12,7 @@ ghost use Rattle.ice_agent_state.specs.Agents.{after, added};
 
 use crate::agent::AgentState;
 use crate::lists::put_first;
+use crate::polling;
 use ice_machine::{Base, Pair, PairState, Remote};
 use stun_endpoints::{Endpoint, Ip};
 
@@ -66,20 +67,24 @@ pub(crate) fn new_pair(base: Base, remote: Remote) -> Pair
     }
 }
 
-/// Whether there is a pair of a base and a remote address.
-fn has_pair(pairs: &[Pair], base: u32, remote: Endpoint) -> bool
+/// Whether there is a pair of a base and a remote address, with a place to look at first.
+fn has_pair(pairs: &[Pair], first: usize, base: u32, remote: Endpoint) -> bool
     ensures { result ≡ list_any (is_at base remote) pairs.now }
 {
+    if first < pairs.len() && polling::is_at(&pairs[first], base, remote) {
+        return true;
+    }
     pairs.iter().any(|p| base == p.base && remote == p.remote)
 }
 
-/// Inserts a pair, unless there is one of its base and remote address, or no room.
-pub(crate) fn add_pair(most: u32, pair: Pair, pairs: &mut Vec<Pair>)
+/// Inserts a pair, unless there is no room, or one of its base and remote address, of which `first` is a guess at the
+/// place.
+pub(crate) fn add_pair(most: u32, pair: Pair, first: usize, pairs: &mut Vec<Pair>)
     requires room { most ≤ vec_capacity pairs.old }
     ensures items { pairs.new.items ≡ machine.with_pair most pair pairs.old.items }
     ensures capacity { vec_capacity pairs.new ≡ vec_capacity pairs.old }
 {
-    if has_pair(pairs, pair.base, pair.remote) || pairs.len() >= most as usize {
+    if has_pair(pairs, first, pair.base, pair.remote) || pairs.len() >= most as usize {
         return;
     }
     put_first(pairs, pair);
@@ -98,7 +103,7 @@ fn pair_base(most: u32, base: Base, remotes: &[Remote], pairs: &mut Vec<Pair>)
         at -= 1;
         let remote = remotes[at];
         if fits(base, remote) {
-            add_pair(most, new_pair(base, remote), pairs);
+            add_pair(most, new_pair(base, remote), 0, pairs);
         }
     }
 }
@@ -116,7 +121,7 @@ fn pair_remote(most: u32, remote: Remote, bases: &[Base], pairs: &mut Vec<Pair>)
         at -= 1;
         let base = bases[at];
         if fits(base, remote) {
-            add_pair(most, new_pair(base, remote), pairs);
+            add_pair(most, new_pair(base, remote), 0, pairs);
         }
     }
 }

@@ -8,13 +8,14 @@ ghost use Rattle.ice_machine.specs.Events.{checks};
 ghost use Rattle.ice_machine.specs.declared.messages.Answer.TheVariants.{Accepted};
 ghost use Rattle.ice_machine.specs.Agents as state;
 ghost use Rattle.ice_machine.specs.Steps as steps;
+ghost use Rattle.ice_machine.specs.Bounds.{AreDistinct};
 ghost use Rattle.ice_agent_state.specs.Agents.{after, output_at};
 ghost use Rattle.ice_agent_state.specs.Outputs.{answered_with, decision_of};
 
 use crate::agent::AgentState;
 use crate::candidates::{add_pair, new_pair};
 use crate::choosing::{is_lost, is_succeeded};
-use crate::polling::is_at;
+use crate::receiving::place_from;
 use ice_machine::{Answer, Base, Check, Pair, PairState, Remote, Role};
 
 /// What an agent does about the role in a check.
@@ -134,16 +135,18 @@ pub(crate) fn triggers(pair: Pair) -> Pair
     }
 }
 
-/// The pair of a check, after it.
-fn hear_on(role: Role, check: &Check, pairs: &mut [Pair])
+/// Changes the pair of a check, with a place to look at first. Returns the place of the pair.
+fn hear_on(role: Role, check: &Check, first: usize, pairs: &mut [Pair]) -> usize
+    requires { AreDistinct pairs.old }
     ensures { pairs.new ≡ steps.changed_first (state.is_at check.now.base check.now.from)
         (steps.heard role check.now) pairs.old }
 {
-    for i in 0..pairs.len() {
-        if is_at(&pairs[i], check.base, check.from) {
-            pairs[i] = heard(role, check, pairs[i]);
-            return;
+    match place_from(pairs, first, check.base, check.from) {
+        Some(place) => {
+            pairs[place] = heard(role, check, pairs[place]);
+            place
         }
+        None => first,
     }
 }
 
@@ -173,8 +176,8 @@ impl AgentState {
         ensures answer { result ≡ Some Accepted }
     {
         let pair = new_pair(base, discovered(&base, check));
-        add_pair(self.settings.most_pairs, pair, &mut self.pairs);
-        hear_on(self.role, check, &mut self.pairs);
+        add_pair(self.settings.most_pairs, pair, self.latest, &mut self.pairs);
+        self.latest = hear_on(self.role, check, self.latest, &mut self.pairs);
         Some(Answer::Accepted)
     }
 

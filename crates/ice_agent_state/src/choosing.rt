@@ -232,9 +232,12 @@ impl AgentState {
         let mut at = self.pairs.len();
         while at > 0 {
             at -= 1;
-            let pair = self.pairs[at];
-            let score = self.score(&pair);
-            best = better(score, pair, best);
+            let pair = &self.pairs[at];
+            let score = self.score(pair);
+            if score == 0 {
+                continue;
+            }
+            best = better(score, *pair, best);
         }
         match best {
             Some((pair, _)) => Some(pair),
@@ -260,9 +263,12 @@ impl AgentState {
         let mut at = self.pairs.len();
         while at > 0 {
             at -= 1;
-            let pair = self.pairs[at];
-            let score = self.selection_score(component, &pair);
-            best = better(score, pair, best);
+            let pair = &self.pairs[at];
+            let score = self.selection_score(component, pair);
+            if score == 0 {
+                continue;
+            }
+            best = better(score, *pair, best);
         }
         match best {
             Some((pair, _)) => Some(pair),

@@ -36,7 +36,7 @@ pub use agent::AgentState;
 pub use candidates::AddError;
 pub use changes::{Change, Changes};
 pub use laws::{reports_stay, statuses_are_routes};
-pub use restarting::{Generation, Session};
+pub use restarting::{Generation, Session, earlier, first_route, is_replaced};
 pub use routing::Route;
 pub use settings::Settings;
 pub use status::Status;

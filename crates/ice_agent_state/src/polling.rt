@@ -13,6 +13,7 @@ use crate::agent::AgentState;
 use crate::choosing::{is_lost, is_succeeded};
 use crate::lists::keep;
 use crate::settings::Settings;
+use crate::settling::{WAIT, moment_of};
 use ice_machine::{Pair, PairState, Request};
 use stun_endpoints::Endpoint;
 
@@ -128,6 +129,8 @@ impl AgentState {
     {
         let request = self.request_on(id, &pair);
         let asked = self.asked(id, pair);
+        let until = moment_of(self.loss_of(&asked)).min(self.clock + WAIT);
+        self.quiet_until = self.quiet_until.min(until);
         replace(&mut self.pairs, pair.base, pair.remote, asked);
         keep(self.settings.most_requests, request, &mut self.requests);
         self.next_request_at = self.clock + pace_of(&self.settings);

@@ -7,7 +7,7 @@ ghost use Rattle.ice_machine.specs.Events.{responds, nothing};
 ghost use Rattle.ice_machine.specs.Agents as state;
 ghost use Rattle.ice_machine.specs.Steps as steps;
 ghost use Rattle.ice_agent_state.specs.Agents.{after, output_at};
-ghost use Rattle.ice_agent_state.specs.Changes.{changed_by, is_counted};
+ghost use Rattle.ice_agent_state.specs.Changes.{changed_by, is_counted, steady_by};
 ghost use Rattle.ice_machine.specs.Steps.{at};
 
 use crate::agent::AgentState;
@@ -69,6 +69,16 @@ fn succeed(role: Role, now: u64, request: &Request, pair: Pair) -> Pair
     }
 }
 
+/// Until when time changes no pair once one is changed, by that before.
+fn steady_until(by: &Change, until: u128) -> u128
+    ensures { result ≡ steady_by by.now until }
+{
+    match by {
+        Change::Succeed(_, now, _) => until.min(*now as u128 + 30_000_000_000),
+        Change::Fail | Change::Retry => until,
+    }
+}
+
 fn fail(pair: Pair) -> Pair
     ensures { result ≡ steps.fails pair }
 {
@@ -123,7 +133,7 @@ fn copy_of(pair: Option<&Pair>) -> Option<Pair>
     }
 }
 
-pub(crate) fn find_pair(pairs: &[Pair], base: u32, to: Endpoint) -> Option<Pair>
+fn find_pair(pairs: &[Pair], base: u32, to: Endpoint) -> Option<Pair>
     ensures { result ≡ find (state.is_at base to) pairs.now }
 {
     copy_of(find_there(pairs, base, to))
@@ -191,6 +201,7 @@ impl AgentState {
         } }
     {
         change_first(base, to, by, &mut self.pairs);
+        self.quiet_until = steady_until(by, self.quiet_until);
     }
 
     fn thaw_kin(&mut self, base: u32, to: Endpoint)

@@ -75,7 +75,8 @@ fn route_older(now: u64, component: u16, older: &mut Option<AgentState>) -> Opti
     }
 }
 
-fn first_route(newer: Option<Route>, older: Option<Route>) -> Option<Route>
+/// Returns the route of the newer agent, or if it has none, that of the older one.
+pub fn first_route(newer: Option<Route>, older: Option<Route>) -> Option<Route>
     ensures { result ≡ restarts.route_by newer older }
 {
     match newer {
@@ -84,7 +85,8 @@ fn first_route(newer: Option<Route>, older: Option<Route>) -> Option<Route>
     }
 }
 
-fn earlier(one: Option<u64>, other: Option<u64>) -> Option<u64>
+/// Returns the earlier one of two moments, or the one that there is.
+pub fn earlier(one: Option<u64>, other: Option<u64>) -> Option<u64>
     ensures { result ≡ sooner one other }
 {
     match one {
@@ -103,7 +105,9 @@ fn is_replaced_in(newer: &AgentState, older: &AgentState, base: &Base) -> bool
     older.selected(base.component).is_none() || newer.selected(base.component).is_some()
 }
 
-fn is_replaced(newer: &AgentState, older: &AgentState) -> bool
+/// Returns `true` if the newer agent has a selected pair of each component of which the older one has one: the
+/// restart is over.
+pub fn is_replaced(newer: &AgentState, older: &AgentState) -> bool
     ensures { result ≡ restarts.is_replaced newer.now older.now }
 {
     older.bases.iter().all(|b| is_replaced_in(newer, older, b))

@@ -1,17 +1,22 @@
 //! What time does.
 
 ghost use Rattle.std.specs.Prelude.{◌≡◌, ℕ, map, filter};
+ghost use Rattle.std.specs.List.{AllByRecursion};
 ghost use Rattle.std.specs.Vec.{vec_capacity};
 ghost use Rattle.ice_machine.specs.Agents.{seconds};
 ghost use Rattle.ice_machine.specs.Steps.{settled, is_awaited};
 ghost use Rattle.ice_machine.specs.declared.pairs.Pair.{Pair};
 ghost use Rattle.ice_agent_state.specs.Agents.{setup_of};
+ghost use Rattle.ice_agent_state.specs.Quiet.{StaysAwaited, capped};
 
 use crate::settings::Settings;
 use ice_machine::{Pair, PairState, Request};
 
+/// A moment after the latest one that the caller's clock can show.
+const NEVER: u128 = 18_446_744_073_709_551_616;
+
 /// For how long a response to a request counts.
-const WAIT: u128 = 30_000_000_000;
+pub(crate) const WAIT: u128 = 30_000_000_000;
 
 /// A pair at a moment: a check that no response came to has failed, and a pair whose consent has expired is
 /// lost.
@@ -67,4 +72,27 @@ pub(crate) fn drop_late(requests: &mut Vec<Request>, now: u128)
     ensures capacity { vec_capacity requests.new ≡ vec_capacity requests.old }
 {
     requests.retain_mut(|r| is_waited_for(now, r));
+}
+
+/// A moment; if the caller's clock can't show it, one after all that it can.
+pub(crate) fn moment_of(moment: Option<u128>) -> u128
+    ensures { result ≡ capped moment }
+{
+    match moment {
+        Some(moment) => moment.min(NEVER),
+        None => NEVER,
+    }
+}
+
+/// Until when responses to all requests count.
+pub(crate) fn waited_until(requests: &[Request]) -> u128
+    ensures { AllByRecursion (StaysAwaited result) requests.now }
+{
+    let mut until = NEVER;
+    let mut at = requests.len();
+    while at > 0 {
+        at -= 1;
+        until = until.min(requests[at].sent.saturating_add(WAIT));
+    }
+    until
 }

@@ -168,14 +168,14 @@ impl AgentState {
     }
 
     /// When a pair fails or is lost.
-    fn loss_of(&self, pair: &Pair) -> Option<u128>
+    pub(crate) fn loss_of(&self, pair: &Pair) -> Option<u128>
         ensures { HoldsFrom (ends_by self.now.setup pair.now) result }
     {
         end_of(&self.settings, pair)
     }
 
     /// When the first pair does.
-    fn first_loss(&self) -> Option<u128>
+    pub(crate) fn first_loss(&self) -> Option<u128>
         ensures { HoldsFrom (some_by (ends_by self.now.setup) self.now.state.pairs) result }
     {
         let mut first = None;

@@ -7,3 +7,5 @@ mod CallsLemmas
 mod RunsLemmas
 mod NumberedLemmas
 mod MeetingLemmas
+mod RolesLemmas
+mod WorksLemmas

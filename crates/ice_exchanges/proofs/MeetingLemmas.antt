@@ -9,6 +9,7 @@ use Rattle.stun_endpoints.specs.declared.endpoints.Endpoint.{Endpoint}
 use Rattle.stun_endpoints.specs.Conversions.{endpoint_of, is_address, socket_of}
 use Rattle.ice_machine.specs.declared.messages.Request.{Request}
 use Rattle.ice_machine.specs.Agents.{Setup, State}
+use Rattle.ice_machine.specs.declared.messages.Answer.{Answer}
 use Rattle.ice_machine.specs.declared.messages.Answer.TheVariants.{Accepted, Refused as RefusedBy}
 use Rattle.ice_machine.specs.Events.{Event, checks, responds, sends, polls, Output, asks, answers, data_to, data_from, nothing}
 use Rattle.ice_machine.specs.Exchanges.{delivered}
@@ -23,7 +24,7 @@ use Rattle.ice_checks.specs.Checks.{response_text}
 use Rattle.ice_checks.specs.Judging.{event_of, judge}
 use Rattle.ice_checks.specs.Views.{Login, Logins, Signing, role_conflict, success}
 use Rattle.ice_agent.specs.Agents.{Agent, passes}
-use Rattle.ice_agent.specs.Receiving.{Reply, event_at, is_awaited, judged, received, received_as}
+use Rattle.ice_agent.specs.Receiving.{Reply, check_response, event_at, is_awaited, judged, received, received_as, reply_text}
 use Rattle.ice_agent.specs.Runs.{Call, calls, learns_peer, takes, Moment, after_all, event_in, stepped, timed_all}
 use Rattle.ice_agent.specs.Sending.{request_text}
 use Rattle.ice_exchanges.specs.Datagrams.{IsPeers}
@@ -100,10 +101,26 @@ module _ (sockets : (e : Endpoint) → is_address e.ip ≡ true → endpoint_of 
   bytes_is : (own peer : Agent) (r : Request) (is : IsPaired own peer) → bytes_of own r ≡ request_text own is.login r
   bytes_is own peer r is = ap (λ (o : Option Login). option_map_or (λ (l : Login). request_text own l r) o []) is.knows.known
 
-  arrives_as : (own peer : Agent) (r : Request) (base : ℕ) (from : Endpoint) → IsPaired own peer → IsInFields r → judged peer base from (bytes_of own r) ≡ Checks (delivered r base from) Sha1
+  pub arrives_as : (own peer : Agent) (r : Request) (base : ℕ) (from : Endpoint) → IsPaired own peer → IsInFields r → judged peer base from (bytes_of own r) ≡ Checks (delivered r base from) Sha1
   arrives_as own peer r base from is fits =
       ap (λ (d : List ℕ). judged peer base from d) (bytes_is own peer r is)
       ∙ check_judged own.logins peer.logins is.login own.software r (is_awaited peer) base from is.knows is.short fits
+
+  -- a response to a request that is waited for
+  pub response_as : (agent : Agent) (peer : Login) (other : Logins) (r : Request) (source : Endpoint) (answer : Answer) → Knows agent.logins peer other → r.id < 2 ^ 96 → IsTransport source → is_awaited agent r.id ≡ true
+      → ((n : ℕ) → answer ≡ RefusedBy n → n ≡ 487)
+      → event_at agent r.base r.to (reply_text (record { id = r.id % 2 ^ 96; response = check_response source answer; signing = Some (record { key = other.own.key; algorithm = Sha1 }) })) ≡ responds r.base r.to r.id answer
+  response_as agent peer other r source Accepted knows small transport waits refuses =
+      let number : r.id % 2 ^ 96 ≡ r.id = omega (arith, small) in
+      let signing : Signing = record { key = other.own.key; algorithm = Sha1 } in
+      let said = success_judged sockets agent.logins other peer (is_awaited agent) r.base (r.id % 2 ^ 96) r.to source knows (omega arith) transport (ap (is_awaited agent) number ∙ waits) in
+      ap (λ (j : Judged). event_of r.base r.to (response_text (r.id % 2 ^ 96) (success source) (Some signing)) j) said ∙ ap (λ (n : ℕ). responds r.base r.to n Accepted) number
+  response_as agent peer other r source (RefusedBy code) knows small transport waits refuses =
+      let number : r.id % 2 ^ 96 ≡ r.id = omega (arith, small) in
+      let signing : Signing = record { key = other.own.key; algorithm = Sha1 } in
+      let said = conflict_judged agent.logins other peer (is_awaited agent) r.base (r.id % 2 ^ 96) r.to knows (omega arith) (ap (is_awaited agent) number ∙ waits) in
+      ap (λ (j : Judged). event_of r.base r.to (response_text (r.id % 2 ^ 96) role_conflict (Some signing)) j) said
+      ∙ (λ i. responds r.base r.to (number i) (RefusedBy (sym (refuses code refl) i)))
 
   -- the response comes back
   back_as : (own peer next : Agent) (r : Request) (base : ℕ) (from : Endpoint) (d : List ℕ) (now anew : ℕ) (output : Output) → IsPaired own peer → IsInFields r → IsTransport from → is_awaited own r.id ≡ true
@@ -113,20 +130,8 @@ module _ (sockets : (e : Endpoint) → is_address e.ip ≡ true → endpoint_of 
   back_as own peer next r base from d now anew (data_to b to bytes) is fits transport waits refuses = refl
   back_as own peer next r base from d now anew (data_from component bytes) is fits transport waits refuses = refl
   back_as own peer next r base from d now anew nothing is fits transport waits refuses = refl
-  back_as own peer next r base from d now anew (answers b to id Accepted) is fits transport waits refuses =
-      let number : r.id % 2 ^ 96 ≡ r.id = omega (arith, fits.id) in
-      let signing : Signing = record { key = peer.logins.own.key; algorithm = Sha1 } in
-      let said = success_judged sockets own.logins peer.logins is.login (is_awaited own) r.base (r.id % 2 ^ 96) r.to from is.knows (omega arith) transport (ap (is_awaited own) number ∙ waits) in
-      let event : event_at own r.base r.to (response_text (r.id % 2 ^ 96) (success from) (Some signing)) ≡ responds r.base r.to r.id Accepted =
-      ap (λ (j : Judged). event_of r.base r.to (response_text (r.id % 2 ^ 96) (success from) (Some signing)) j) said ∙ ap (λ (n : ℕ). responds r.base r.to n Accepted) number in
-      λ i. record { one = (step own.held.setup own.held.state now anew (event i)).state; other = next.held.state }
-  back_as own peer next r base from d now anew (answers b to id (RefusedBy code)) is fits transport waits refuses =
-      let number : r.id % 2 ^ 96 ≡ r.id = omega (arith, fits.id) in
-      let signing : Signing = record { key = peer.logins.own.key; algorithm = Sha1 } in
-      let said = conflict_judged own.logins peer.logins is.login (is_awaited own) r.base (r.id % 2 ^ 96) r.to is.knows (omega arith) (ap (is_awaited own) number ∙ waits) in
-      let event : event_at own r.base r.to (response_text (r.id % 2 ^ 96) role_conflict (Some signing)) ≡ responds r.base r.to r.id (RefusedBy code) =
-      ap (λ (j : Judged). event_of r.base r.to (response_text (r.id % 2 ^ 96) role_conflict (Some signing)) j) said
-      ∙ (λ i. responds r.base r.to (number i) (RefusedBy (sym (refuses b id to code refl) i))) in
+  back_as own peer next r base from d now anew (answers b to id answer) is fits transport waits refuses =
+      let event = response_as own is.login peer.logins r from answer is.knows fits.id transport waits (λ n e. refuses b id to n (ap (answers b to id) e)) in
       λ i. record { one = (step own.held.setup own.held.state now anew (event i)).state; other = next.held.state }
 
   -- the request crosses

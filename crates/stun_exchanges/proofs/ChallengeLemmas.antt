@@ -45,7 +45,7 @@ use Rattle.stun_authentication.proofs.TypesLemmas.{free}
 
 -- ---- The code
 
-small : List ℕ → Bool
+unfoldable pub small : List ℕ → Bool
 small [] = true
 small (b ∷ bs) = ltb b 128 && small bs
 
@@ -63,10 +63,10 @@ ascii (b ∷ bs) e (suc i) = ascii bs (first_true (ltb b 128) (small bs) e).1 i
 pub code_value : Refusal → List ℕ
 code_value refusal = error_value (refusal_code refusal) (refusal_reason refusal)
 
-utf8_of : (bs : List ℕ) → small bs ≡ true → is_utf8 bs ≡ true
+pub utf8_of : (bs : List ℕ) → small bs ≡ true → is_utf8 bs ≡ true
 utf8_of bs e = is_utf8-from_IsUtf8 bs (IsUtf8-from_ascii bs (ascii bs e))
 
-code_reported : (refusal : Refusal) → asks refusal ≡ true → value_code (code_value refusal) ≡ Some (refusal_code refusal)
+pub code_reported : (refusal : Refusal) → asks refusal ≡ true → value_code (code_value refusal) ≡ Some (refusal_code refusal)
 unfolding code_value small
 code_reported BadRequest e = absurd cc
 code_reported Unauthenticated e = ap (λ (b : Bool). if is_some (option_or None (if true && b then None else Some InvalidAttributeData)) then None else Some 401) (utf8_of (codes "Unauthenticated") refl)
@@ -78,7 +78,7 @@ code_short BadRequest e = absurd cc
 code_short Unauthenticated e = lit< tt
 code_short StaleNonce e = lit< tt
 
-challenges : (refusal : Refusal) (code : Option ℕ) → asks refusal ≡ true → code ≡ Some (refusal_code refusal) → (is_code 401 code || is_code 438 code) ≡ true
+pub challenges : (refusal : Refusal) (code : Option ℕ) → asks refusal ≡ true → code ≡ Some (refusal_code refusal) → (is_code 401 code || is_code 438 code) ≡ true
 challenges BadRequest code e is = absurd cc
 challenges Unauthenticated code e is = ap (λ (o : Option ℕ). is_code 401 o || is_code 438 o) is
 challenges StaleNonce code e is = ap (λ (o : Option ℕ). is_code 401 o || is_code 438 o) is
@@ -202,6 +202,26 @@ read_of first missing refusal asked supported a tried had_algorithms d asking cl
     (reported_text asked.realm (value_of d REALM) realm-is lawful.realm_is) (reported_text asked.nonce (value_of d NONCE) nonce-is lawful.nonce_is) list-is takes
     (no_repeat tried had_algorithms refusal asked (response_code d) asking code-is retries)
 
+-- it may be written
+written_writable : (attributes : List Attribute) (refusal : Refusal) (asked : Asked) (fingerprint : Bool) (kind id : ℕ)
+    → attributes ≡ written (code_value refusal) asked.realm asked.nonce asked.list → asks refusal ≡ true → kind < 2 ^ 14 → id < 2 ^ 96 → IsLawful asked → HasRoom kind id (finished fingerprint kind id attributes)
+    → IsWritable kind id (finished fingerprint kind id attributes)
+written_writable attributes refusal asked fingerprint kind id is asking kind_fits id_fits lawful room =
+    let list = asked.list in
+    let parts = written (code_value refusal) asked.realm asked.nonce list in
+    let plain : list_any is_ending (types attributes) ≡ false = ap (λ (l : List Attribute). list_any is_ending (types l)) is ∙ written_plain (code_value refusal) asked.realm asked.nonce list in
+    let ended : Ended attributes (finished fingerprint kind id attributes) = ended_finished fingerprint kind id attributes attributes (ended_none attributes) in
+    let fits : HasRoom kind id attributes = room_down kind id attributes ended.more (subst (HasRoom kind id) ended.whole room) in
+    let so : IsWritable kind id attributes = subst (IsWritable kind id) (sym is) (adds kind id [] parts (none_writable kind id kind_fits id_fits) refl
+    (added ERROR_CODE (code_value refusal) (lit< tt) (code_short refusal asking) refl, (added REALM asked.realm (lit< tt) (text_short asked.realm lawful.realm_is) refl, (added NONCE asked.nonce (lit< tt) (text_short asked.nonce lawful.nonce_is) refl, list_added list lawful.list_fits)))
+    (subst (HasRoom kind id) is fits)) in
+    finished_writable fingerprint kind id attributes so (free finger (types attributes) plain) room
+
+pub refused_writable : (refusal : Refusal) (asked : Asked) (fingerprint : Bool) (kind id : ℕ) → asks refusal ≡ true → kind < 2 ^ 14 → id < 2 ^ 96 → IsLawful asked → HasRoom kind id (refused_attributes fingerprint kind id refusal asked)
+    → IsWritable kind id (refused_attributes fingerprint kind id refusal asked)
+refused_writable refusal asked fingerprint kind id asking =
+    written_writable (refusal_attributes refusal (Some asked)) refusal asked fingerprint kind id (same_written refusal asked asking) asking
+
 -- for the attributes that `refuse_long_term` writes, under an equation
 written_read : IsFirst → IsMissing → (attributes : List Attribute) (refusal : Refusal) (asked : Asked) (supported : List PasswordAlgorithmValue) (a : PasswordAlgorithmValue) (tried : Option (List ℕ)) (had_algorithms : Bool) (fingerprint : Bool) (kind id : ℕ)
     → attributes ≡ written (code_value refusal) asked.realm asked.nonce asked.list → asks refusal ≡ true → kind < 2 ^ 14 → id < 2 ^ 96 → class_of kind ≡ ErrorClass → IsLawful asked
@@ -210,15 +230,8 @@ written_read : IsFirst → IsMissing → (attributes : List Attribute) (refusal 
 written_read first missing attributes refusal asked supported a tried had_algorithms fingerprint kind id is asking kind_fits id_fits class lawful agrees takes retries room =
     let all = finished fingerprint kind id attributes in
     let d = message_encoding kind id all in
-    let list = asked.list in
-    let parts = written (code_value refusal) asked.realm asked.nonce list in
-    let plain : list_any is_ending (types attributes) ≡ false = ap (λ (l : List Attribute). list_any is_ending (types l)) is ∙ written_plain (code_value refusal) asked.realm asked.nonce list in
     let ended : Ended attributes all = ended_finished fingerprint kind id attributes attributes (ended_none attributes) in
-    let fits : HasRoom kind id attributes = room_down kind id attributes ended.more (subst (HasRoom kind id) ended.whole room) in
-    let so : IsWritable kind id attributes = subst (IsWritable kind id) (sym is) (adds kind id [] parts (none_writable kind id kind_fits id_fits) refl
-    (added ERROR_CODE (code_value refusal) (lit< tt) (code_short refusal asking) refl, (added REALM asked.realm (lit< tt) (text_short asked.realm lawful.realm_is) refl, (added NONCE asked.nonce (lit< tt) (text_short asked.nonce lawful.nonce_is) refl, list_added list lawful.list_fits)))
-    (subst (HasRoom kind id) is fits)) in
-    let writable : IsWritable kind id all = finished_writable fingerprint kind id attributes so (free finger (types attributes) plain) room in
+    let writable : IsWritable kind id all = written_writable attributes refusal asked fingerprint kind id is asking kind_fits id_fits lawful room in
     read_of first missing refusal asked supported a tried had_algorithms d asking (ap class_of (type-message kind id all kind_fits) ∙ class) lawful agrees takes retries
     (record { more = ended.more; shows = shown-message kind id all writable ∙ ap (placed 20) (ended.whole ∙ ap (λ (l : List Attribute). l ++ ended.more) is); ending = ended.ending })
 

@@ -3,9 +3,9 @@ pub mod EndedLemmas
 pub mod ProofLemmas
 pub mod ShortTermLemmas
 mod ListsLemmas
-mod LongTermLemmas
+pub mod LongTermLemmas
 pub mod TakenLemmas
-mod ChallengeLemmas
+pub mod ChallengeLemmas
 mod RetriedLemmas
 mod ExampleLemmas
 mod WritableLemmas

@@ -47,7 +47,7 @@ use Rattle.stun_exchanges.proofs.LoginsWritableLemmas.{none_ends, lacks_reserved
 -- ---- The credentials of a request
 
 -- the same as `credentials`, by the parts of a challenge
-abbrev parts : Who → (realm nonce : List ℕ) → Option (List ℕ) → PasswordAlgorithmValue → List Attribute
+abbrev pub parts : Who → (realm nonce : List ℕ) → Option (List ℕ) → PasswordAlgorithmValue → List Attribute
 parts who realm nonce list a = identity_attribute who ∷ canonical REALM realm ∷ canonical NONCE nonce ∷ algorithm_attributes list a
 
 -- none of them is an ending one
@@ -234,6 +234,29 @@ rows policy realm nonces keys d who reported nonce key xs list algorithm a taken
     ∙ ap (λ (o : Option IntegrityAlgorithm). decided ((not (is_some o), refuse Unauthenticated) ∷ []) (accepted_with (identity_of d) (Some key) o (λ _. reply_algorithm (chosen d)))) right
     ∙ ap (λ (o : Option Who). accepted_with o (Some key) (Some a) (λ _. reply_algorithm (chosen d))) user
 
+-- ---- The request may be written
+
+pub retried_writable : (asked : Asked) (algorithm : PasswordAlgorithmValue) (user : User) (fingerprint : Bool) (kind id : ℕ) (before : List Attribute)
+    → (let retry = retry_with asked algorithm in
+    IsShort asked user.name → IsOwn kind id before → HasRoom kind id (retried_attributes fingerprint retry user kind id before) → IsWritable kind id (retried_attributes fingerprint retry user kind id before))
+retried_writable asked algorithm user fingerprint kind id before short own room =
+    let retry = retry_with asked algorithm in
+    let bytes = user_key retry user in
+    let a = signing_algorithm retry in
+    let who = asked_identity asked user.name in
+    let list = asked.list in
+    let credits = credentials retry user.name in
+    let xs = before ++ credits in
+    let none = none_ends (types before) own.own in
+    let plain : list_any is_ending (types xs) ≡ false = any-append is_ending before credits none (parts_plain who asked.realm asked.nonce list algorithm) in
+    let ended = ended_finished fingerprint kind id xs (signed kind id xs a bytes) (ended_signed kind id xs xs a bytes (ended_none xs)) in
+    let so : IsWritable kind id xs = adds kind id before credits own.writable none
+    (parts_added who asked.realm asked.nonce list algorithm (who_fits (asks_userhash asked) asked.realm user.name short.name_fits) short.realm_fits short.nonce_fits short.list_fits)
+    (room_down kind id xs ended.more (subst (HasRoom kind id) ended.whole room)) in
+    once_writable fingerprint kind id xs a bytes so plain room
+
+-- ---- It is accepted
+
 pub accepted : IsFirst → IsMissing → (policy : Policy) (nonces : List ℕ → Known) (keys : Who → List ℕ → PasswordAlgorithmValue → Option UserKey) (asked : Asked) (algorithms : List PasswordAlgorithmValue) (supported : List PasswordAlgorithmValue) (algorithm : PasswordAlgorithmValue) (user : User) (key : UserKey) (fingerprint : Bool) (kind id : ℕ) (before : List Attribute)
     → (let retry = retry_with asked algorithm in
     IsOffered nonces asked algorithms → Takes supported asked algorithm → IsShort asked user.name → class_of kind ≡ Request → IsOwn kind id before → HasRoom kind id (retried_attributes fingerprint retry user kind id before)
@@ -252,10 +275,7 @@ accepted first missing policy nonces keys asked algorithms supported algorithm u
     let none = none_ends (types before) own.own in
     let plain : list_any is_ending (types xs) ≡ false = any-append is_ending before credits none (parts_plain who asked.realm asked.nonce list algorithm) in
     let ended : Ended xs all = ended_finished fingerprint kind id xs (signed kind id xs a bytes) (ended_signed kind id xs xs a bytes (ended_none xs)) in
-    let so : IsWritable kind id xs = adds kind id before credits own.writable none
-    (parts_added who asked.realm asked.nonce list algorithm (who_fits (asks_userhash asked) asked.realm user.name short.name_fits) short.realm_fits short.nonce_fits short.list_fits)
-    (room_down kind id xs ended.more (subst (HasRoom kind id) ended.whole room)) in
-    let writable : IsWritable kind id all = once_writable fingerprint kind id xs a bytes so plain room in
+    let writable : IsWritable kind id all = retried_writable asked algorithm user fingerprint kind id before short own room in
     let shows : Shows d before credits = record { more = ended.more; shows = shown-message kind id all writable ∙ ap (placed 20) ended.whole; own = own.own; ending = ended.ending } in
     let unsigned : has (type_of_algorithm a) (types xs) ≡ false = any-append (λ t. eqb t (type_of_algorithm a)) before credits (own_missing a (types before) own.own) (parts_unsigned a who asked.realm asked.nonce list algorithm) in
     let both = in_common policy.algorithm key.made_for a served.counts works.works in

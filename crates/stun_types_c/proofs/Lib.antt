@@ -19,3 +19,4 @@ mod KnownTypesLemmas
 mod TurnLemmas
 mod GivenHmacsLemmas
 mod AllocationLemmas
+mod IceLemmas

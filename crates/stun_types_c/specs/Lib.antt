@@ -47,3 +47,10 @@ pub mod AllocationHandles
 pub mod AllocationMaking
 pub mod AllocationCalls
 pub mod AllocationChanges
+pub mod IceMarks
+pub mod IceHandles
+pub mod IceMaking
+pub mod IceCandidates
+pub mod IceCalls
+pub mod IceChanges
+pub mod IceTexts

@@ -134,7 +134,7 @@ fn peers_of(number: u32) -> Option<u16>
 }
 
 /// A number of times.
-fn times_of(usual: u8, number: u32) -> Option<u8>
+pub(crate) fn times_of(usual: u8, number: u32) -> Option<u8>
     ensures { result ≡ number_named 255 usual number }
 {
     if number == 0 {
@@ -160,7 +160,7 @@ fn counts_of(named: &CAllocationSettings<'_>) -> Option<Counts>
 }
 
 /// A wait in nanoseconds.
-fn wait_of(millis: u32, usual: u64) -> u64
+pub(crate) fn wait_of(millis: u32, usual: u64) -> u64
     ensures { result ≡ wait_named millis usual }
 {
     if millis == 0 {

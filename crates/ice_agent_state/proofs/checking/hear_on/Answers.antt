@@ -1,18 +1,16 @@
-use Rattle.std.proofs.Common.{◌≡◌, ◌++◌, ◌<◌, List, length, take, drop, set, get_or, true, sym, ap, ◌∙◌, arith}
+use Rattle.std.proofs.Common.{set, ap, ◌∙◌}
 use Rattle.ice_machine.specs.declared.pairs.Pair.{Pair}
 use Rattle.ice_machine.specs.Agents.{is_at}
-use Rattle.ice_machine.specs.Steps.{changed_first, heard}
-use Rattle.ice_agent_state.proofs.PairsLemmas.{no_pair}
-use Rattle.ice_agent_state.proofs.AskedLemmas.{first_here}
+use Rattle.ice_machine.specs.Steps.{heard}
+use Rattle.ice_agent_state.proofs.PairsLemmas.{no_pair, changed_at, none_changed}
 use Rattle.ice_agent_state.proofs.checking.hear_on.Goals as goal
 
-pub returns-then-is_at : goal.returns-then-is_at
-returns-then-is_at c =
-    let test = is_at c.args.check.now.base c.args.check.now.from in
-    let change = heard c.args.role c.args.check.now in
-    let lt : c.loop-i.i < length c.loop-i.pairs = omega arith in
-    let passes : test (get_or c.loop-i.pairs c.loop-i.i no_pair) ≡ true = sym c.is_at.ensures ∙ c.if-is_at.true in
-    ap (λ (y : Pair). set c.loop-i.pairs c.loop-i.i y) c.heard.ensures
-    ∙ first_here test change c.loop-i.pairs c.loop-i.i no_pair lt passes
-    ∙ ap (λ (zs : List Pair). take c.loop-i.i zs ++ changed_first test change (drop c.loop-i.i zs)) c.loop-i.invariant.same
-    ∙ sym c.loop-i.invariant.so_far
+pub returns-in-Some : goal.returns-in-Some
+returns-in-Some c =
+    let check = c.args.check.now in
+    let place = c.in-Some.ensures in
+    ap (λ (p : Pair). set c.args.pairs.now c.in-Some.place p) c.heard.ensures
+    ∙ changed_at check.base check.from (heard c.args.role check) c.args.pairs.now c.in-Some.place no_pair c.requires place.0 (place.1 no_pair)
+
+pub returns-in-None : goal.returns-in-None
+returns-in-None c = none_changed (is_at c.args.check.now.base c.args.check.now.from) (heard c.args.role c.args.check.now) c.args.pairs.now c.in-None.ensures

@@ -1,36 +1,28 @@
-use Rattle.std.proofs.Common.{◌≡◌, ◌≤◌, List, length, map, max, ap, ◌∙◌, sym, subst, arith, rules}
-use Rattle.std.specs.List.{AllByRecursion}
-use Rattle.std.proofs.lemmas.List.{length-map}
-use Rattle.ice_machine.specs.declared.pairs.Pair.{Pair}
-use Rattle.ice_machine.specs.declared.messages.Request.{Request}
-use Rattle.ice_machine.specs.Steps.{is_awaited, settled}
-use Rattle.ice_machine.specs.Bounds.{AreDistinct}
-use Rattle.ice_agent_state.specs.Agents.{setup_of}
-use Rattle.ice_agent_state.specs.Tried.{IsTried}
-use Rattle.ice_agent_state.proofs.ListsLemmas.{filter_few, take_written}
-use Rattle.ice_agent_state.proofs.TriedLemmas.{all_settled, settled_distinct}
+use Rattle.std.proofs.Common.{◌≡◌, ℕ, ◌<◌, max, ap, ◌∙◌, subst}
+use Rattle.ice_machine.specs.Agents.{State}
+use Rattle.ice_machine.specs.Steps.{at}
+use Rattle.ice_agent_state.specs.Agents.{Held, setup_of}
+use Rattle.ice_agent_state.proofs.QuietLemmas.{at_quiet}
 use Rattle.ice_agent_state.proofs.agent.AgentState.advance.Goals as goal
 
-pub invariant_of-self : goal.invariant_of-self
-invariant_of-self c =
-    let most = max 1 c.self.inside.settings.most_tries in
-    let fewer = filter_few (is_awaited c.max-self-inside.result) c.self.inside.requests.items in
-    let few = c.self.invariant.few in
-    let room = c.self.invariant.requests in
-    let same = c.drop_late.ensures.capacity in
-    let changed = map {B = Pair} (settled (setup_of c.self.inside.settings) c.max-self-inside.result) c.self.inside.pairs.items in
-    let is : c.settle_all.new.pairs ≡ changed = search rules in
-    let length_is : length c.settle_all.new.pairs ≡ length c.self.inside.pairs.items = ap (λ (ps : List Pair). length ps) is ∙ length-map c.self.inside.pairs.items (settled (setup_of c.self.inside.settings) c.max-self-inside.result) in
-    let all : c.self.inside.pairs.len ≡ length c.self.inside.pairs.items = search rules in
-    let written = sym is ∙ take_written c.settle_all.new.pairs c.self.inside.pairs.items c.self.inside.pairs.len length_is all in
-    record {
-      early = let e = c.max-self-inside.ensures in let early = c.self.invariant.early in let fits = c.ranges.now.fits in omega (arith, e, early, fits);
-      bases = c.self.invariant.bases;
-      remotes = c.self.invariant.remotes;
-      pairs = c.self.invariant.pairs;
-      requests = omega (arith, same, room);
-      few = subst (λ (rs : List Request). length rs ≤ c.self.inside.settings.most_requests) (sym c.drop_late.ensures.items) (omega (arith, fewer, few));
-      tries = c.self.invariant.tries;
-      distinct = subst AreDistinct written (settled_distinct (setup_of c.self.inside.settings) c.max-self-inside.result c.self.inside.pairs.items c.self.invariant.distinct);
-      tried = subst (AllByRecursion (IsTried most)) written (all_settled most (setup_of c.self.inside.settings) c.max-self-inside.result c.self.inside.pairs.items c.self.invariant.tried);
-    }
+pub returns-then-clock-self : goal.returns-then-clock-self
+returns-then-clock-self c =
+    let held : Held = record {
+      setup = setup_of c.self.inside.settings;
+      state = record {
+        clock = c.self.inside.clock;
+        role = c.self.inside.role;
+        tiebreaker = c.self.inside.tiebreaker;
+        ready = c.self.inside.ready;
+        ended = c.self.inside.ended;
+        bases = c.self.inside.bases.items;
+        remotes = c.self.inside.remotes.items;
+        pairs = c.self.inside.pairs.items;
+        requests = c.self.inside.requests.items;
+        next_request_at = c.self.inside.next_request_at;
+      };
+    } in
+    let before : max held.state.clock c.args.now < c.self.inside.quiet_until = subst (λ (n : ℕ). n < c.self.inside.quiet_until) c.max-clock.ensures c.if-clock-self.true in
+    subst (λ (z : Held). record held { state = record held.state { clock = c.max-clock.result } } ≡ record z { state = at z.setup c.args.now z.state }) c.self.view_is
+    (ap (λ (n : ℕ). record held { state = record held.state { clock = n } }) c.max-clock.ensures
+    ∙ ap (λ (s : State). record held { state = s }) (at_quiet held.setup c.args.now c.self.inside.quiet_until held.state before c.self.invariant.steady c.self.invariant.awaited))

@@ -2,14 +2,17 @@ use Rattle.std.proofs.Common.{◌≡◌, ℕ, ◌+◌, ◌≤◌, ◌∷◌, Lis
 use Rattle.std.specs.List.{AllByRecursion}
 use Rattle.ice_machine.specs.declared.pairs.Pair.{Pair}
 use Rattle.ice_machine.specs.declared.messages.Request.{Request}
-use Rattle.ice_machine.specs.Agents.{is_at}
+use Rattle.ice_machine.specs.Agents.{seconds, is_at}
 use Rattle.ice_machine.specs.Checks.{asked, request_on, most_urgent}
 use Rattle.ice_machine.specs.Steps.{changed_first, asks_on}
 use Rattle.ice_machine.specs.Bounds.{AreDistinct}
 use Rattle.ice_agent_state.specs.Agents.{Held, setup_of, IsSettled}
 use Rattle.ice_agent_state.specs.Tried.{IsTried}
+use Rattle.ice_agent_state.specs.Waking.{HoldsFrom, ends_by}
+use Rattle.ice_agent_state.specs.Quiet.{IsSteady, StaysAwaited, capped}
 use Rattle.ice_agent_state.proofs.ListsLemmas.{take_written, take_few}
-use Rattle.ice_agent_state.proofs.AskedLemmas.{AskFacts, ask_changes, changed_length}
+use Rattle.ice_agent_state.proofs.AskedLemmas.{AskFacts, ask_changes, changed_length, each_replaced}
+use Rattle.ice_agent_state.proofs.QuietLemmas.{steady_one, all_steady_sooner, steady_sooner, awaited_by, all_awaited_sooner, each_taken}
 use Rattle.ice_agent_state.proofs.agent.AgentState.ask.Goals as goal
 
 pub asked-asked-requires : goal.asked-asked-requires
@@ -65,6 +68,17 @@ invariant_of-self c =
     let length_is : length c.replace.new.pairs ≡ length items = ap (λ (ps : List Pair). length ps) is ∙ changed_length (is_at c.args.pair.base c.args.pair.remote) (λ _. asked held.setup held.state c.args.id c.args.pair) items in
     let all : c.self.inside.pairs.len ≡ length items = search rules in
     let written = sym is ∙ take_written c.replace.new.pairs items c.self.inside.pairs.len length_is all in
+    let end = c.loss_of.result in
+    let until = c.min-self-inside.result in
+    let least = c.min-self-inside.ensures in
+    let sooner = c.min-until.ensures in
+    let is_end = c.moment_of.ensures in
+    let by_end : until ≤ capped end = omega (arith, least, sooner, is_end) in
+    let holds_asked : HoldsFrom (ends_by held.setup c.asked-asked.result) end = subst (λ (z : Held). HoldsFrom (ends_by z.setup c.asked-asked.result) end) (sym c.self.view_is) c.loss_of.ensures in
+    let holds : HoldsFrom (ends_by held.setup (asked held.setup held.state c.args.id c.args.pair)) end = subst (λ (y : Pair). HoldsFrom (ends_by held.setup y) end) e holds_asked in
+    let request_is : c.request_on-request.result ≡ request_on held.setup held.state c.args.id c.args.pair = subst (λ (z : Held). c.request_on-request.result ≡ request_on z.setup z.state c.args.id c.args.pair) (sym c.self.view_is) c.request_on-request.ensures in
+    let sent_is : c.request_on-request.result.sent ≡ c.self.inside.clock = ap (λ (r : Request). r.sent) request_is in
+    let by_sent : until ≤ c.request_on-request.result.sent + seconds 30 = omega (arith, least, sooner, sent_is) in
     let same = c.keep.ensures.capacity in
     let room = c.self.invariant.requests in
     record {
@@ -77,6 +91,12 @@ invariant_of-self c =
       tries = c.self.invariant.tries;
       distinct = subst AreDistinct written facts.distinct;
       tried = subst (AllByRecursion (IsTried most)) written facts.tried;
+      steady = subst (AllByRecursion (IsSteady held.setup until)) written
+          (each_replaced (IsSteady held.setup until) (is_at c.args.pair.base c.args.pair.remote) (asked held.setup held.state c.args.id c.args.pair)
+          (steady_sooner held.setup (capped end) until by_end (asked held.setup held.state c.args.id c.args.pair) (steady_one held.setup (asked held.setup held.state c.args.id c.args.pair) end holds))
+          items (all_steady_sooner held.setup c.self.inside.quiet_until until items (omega (arith, least)) c.self.invariant.steady));
+      awaited = subst (AllByRecursion (StaysAwaited until)) (sym c.keep.ensures.items) (each_taken (StaysAwaited until) c.self.inside.settings.most_requests (c.request_on-request.result ∷ c.self.inside.requests.items)
+          (awaited_by until c.request_on-request.result by_sent, all_awaited_sooner c.self.inside.quiet_until until c.self.inside.requests.items (omega (arith, least)) c.self.invariant.awaited));
     }
 
 pub returns-clause-state : goal.returns-clause-state

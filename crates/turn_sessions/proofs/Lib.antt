@@ -1,0 +1,10 @@
+mod ShownLemmas
+mod AddressesLemmas
+mod JudgingLemmas
+mod ChannelsLemmas
+mod DataLemmas
+mod AskingLemmas
+mod RequestsLemmas
+mod AnswersLemmas
+mod ErrorsLemmas
+mod CrossingLemmas

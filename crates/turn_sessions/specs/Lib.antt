@@ -1,0 +1,4 @@
+pub mod Sides
+pub mod Requests
+pub mod Answers
+pub mod Crossing
