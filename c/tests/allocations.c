@@ -105,6 +105,8 @@ static void test_settings(void) {
     WITH("another family", family, 5, WRONG);
     WITH("4,096 peers", peers, 4096, OK_ANSWER);
     WITH("4,097 peers", peers, 4097, WRONG);
+    WITH("16 peers in one request", named, 16, OK_ANSWER);
+    WITH("17 peers in one request", named, 17, WRONG);
     WITH("255 sendings", sends, 255, OK_ANSWER);
     WITH("256 sendings", sends, 256, WRONG);
     WITH("255 retries", retries, 255, OK_ANSWER);

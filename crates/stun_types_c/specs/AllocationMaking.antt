@@ -49,9 +49,10 @@ number_named greatest usual number =
 
 abbrev pub counts_named : CAllocationSettings → Option Counts
 counts_named named =
-    option_and_then (λ peers. option_and_then (λ sends. option_map (λ retries.
-    record { peers = peers; sends = sends; retries = retries }) (number_named 255 3 named.retries))
-    (number_named 255 7 named.sends)) (number_named 4096 32 named.peers)
+    option_and_then (λ peers. option_and_then (λ most_named. option_and_then (λ sends. option_map (λ retries.
+    record { peers = peers; named = most_named; sends = sends; retries = retries })
+    (number_named 255 3 named.retries)) (number_named 255 7 named.sends)) (number_named 16 8 named.named))
+    (number_named 4096 32 named.peers)
 
 -- a wait of milliseconds, in nanoseconds; 0 is the usual one
 abbrev pub wait_named : (millis usual : ℕ) → ℕ
@@ -75,6 +76,7 @@ settings_by named Udp server family counts = record {
   family = family;
   is_reliable = false;
   most_peers = counts.peers;
+  most_named = counts.named;
   most_sends = counts.sends;
   most_retries = counts.retries;
   rto = wait_named named.rto 500_000_000;
@@ -85,6 +87,7 @@ settings_by named Tcp server family counts = record {
   family = family;
   is_reliable = true;
   most_peers = counts.peers;
+  most_named = counts.named;
   most_sends = 1;
   most_retries = counts.retries;
   rto = 500_000_000;

@@ -84,9 +84,9 @@ turned_few along setup clock fresh challenge ps false busy few =
 
 few_keep : (setup : Setup) → PeersKeep setup Few
 few_keep setup = record {
-  mapped = λ change same calm ps few. let le = count_mapped is_single change calm ps in omega (arith, le, few);
-  changed = λ test change same calm ps few. let le = count_calm is_single test change (λ p _. calm p) ps in omega (arith, le, few);
-  changed_all = λ test change same calm ps few. let le = count_each is_single test change calm ps in omega (arith, le, few);
+  mapped = λ change same calm ps few. let le = count_mapped is_single change (λ p. (calm p).0) ps in omega (arith, le, few);
+  changed = λ test change same calm ps few. let le = count_calm is_single test change (λ p _. (calm p).0) ps in omega (arith, le, few);
+  changed_all = λ test change same calm ps few. let le = count_each is_single test change (λ p. (calm p).0) ps in omega (arith, le, few);
   turned = λ along clock fresh challenge ps. turned_few along setup clock fresh challenge ps (is_free ps) refl;
   joins = λ clock fresh challenge ps few. let le = count_calm is_single (is_fit clock) (turned_of true setup clock fresh challenge) (λ p _. joined_calm setup clock fresh challenge p) ps in omega (arith, le, few);
 }

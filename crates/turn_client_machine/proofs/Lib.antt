@@ -39,4 +39,5 @@ mod LossLemmas
 mod TidyLemmas
 mod DroppedLemmas
 mod RestingLemmas
+mod OneRequestLemmas
 mod SharingLemmas

@@ -27,7 +27,7 @@ pub data Event : Type 0 where
   polls : Event
 
 -- One output for each event: a request to the server, and the further peers that it names if it is a
--- CreatePermission request (9); a Send indication to a peer; ChannelData; data of a peer, shown to the
+-- CreatePermission request (10.1); a Send indication to a peer; ChannelData; data of a peer, shown to the
 -- user; or nothing
 pub data Output : Type 0 where
   asks : Request → (others : List Endpoint) → Output

@@ -163,7 +163,7 @@ abbrev pub given_up : (code : ℕ) → Peer → Peer
 given_up code p = record p { over = true; code = code; task = record p.task { pending = None } }
 
 -- If a channel is refused, the client asks for a permission instead. If a request that named other
--- peers too is refused, any of them may be the reason (9.2), so the client asks for each alone. But it
+-- peers too is refused, any of them may be the reason (10.2), so the client asks for each alone. But it
 -- sends no request for the peer any more if the server refuses the credentials (7.4; RFC 8489, 9.2.5)
 abbrev pub asks_instead : (code : ℕ) → Peer → Bool
 asks_instead code p = (p.wants || p.shared) && not ((code == 401) || (code == 438))

@@ -233,7 +233,7 @@ output_of setup clock fresh challenge others p =
     if is_expired clock p.task then nothing
     else turn_output setup clock fresh (kind_of p) challenge others (own_task p)
 
--- ---- Several peers in one CreatePermission request (9)
+-- ---- Several peers in one CreatePermission request (10.1)
 
 -- a permission that is due within 30 seconds may be asked for together with others, unless a request
 -- that named several peers was refused

@@ -7,7 +7,7 @@ use Rattle.turn_client_machine.specs.Clients.{Ip, Endpoint, is_ip, is_endpoint, 
 use Rattle.turn_client_machine.specs.Events.{Answer, Opened, Extended, Done, Event, permits, binds, sends, responds, gives, gives_on, polls, Output, asks, send_to, send_on, shows, nothing}
 use Rattle.turn_client_machine.specs.Runs.{Happening, Happened}
 
--- a request asks for this: itself, or a permission for another peer that it names (9)
+-- a request asks for this: itself, or a permission for another peer that it names (10.1)
 pub record IsAlong (first : Request) (others : List Endpoint) (r : Request) : Type 0 where
   pub peer : Endpoint
   pub kind : first.kind ≡ Permit peer

@@ -47,7 +47,7 @@
 //! - Data from any port of a permitted IP address is shown, and data to one is sent (9): ICE
 //!   needs both.
 //! - A CreatePermission request takes along further peers whose permission is due within 30 seconds
-//!   (9), up to a setting; one such request is under way at a time. It is sent once. If no response
+//!   (10.1), up to a setting; one such request is under way at a time. It is sent once. If no response
 //!   comes by the first wait, or if it is refused, the client asks for each of its peers alone: an
 //!   error response doesn't say which of them is the reason. A CreatePermission request for one peer,
 //!   as every other request, is sent again by the waits of RFC 8489.

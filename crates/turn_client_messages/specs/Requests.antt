@@ -35,7 +35,7 @@ id_of request = request.id % 2 ^ 96
 
 -- ---- What it asks for
 
--- a CreatePermission request names its peer, and the others after it (section 9)
+-- a CreatePermission request names its peer, and the others after it (section 10.1)
 abbrev pub asked : Content → (id : ℕ) → (others : List Endpoint) → Kind → List Attribute
 asked content id others Allocate = allocate_attributes content.lifetime content.family
 asked content id others Refresh = map lifetime_attribute (option_to_list content.lifetime)

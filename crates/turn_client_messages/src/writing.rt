@@ -77,7 +77,7 @@ impl ClientRequest<'_> {
     ///
     /// An Allocate request asks for the lifetime and the family of the settings, over UDP; a Refresh
     /// request for the lifetime, and one that deletes the allocation for a lifetime of 0; a
-    /// CreatePermission request names its peer and, after it, `others` (RFC 8656, section 9); and a
+    /// CreatePermission request names its peer and, after it, `others` (RFC 8656, section 10.1); and a
     /// ChannelBind request its channel and its peer. Other requests don't use `others`.
     /// The credentials are those of
     /// [`answer_challenge_with_key`](stun_authentication::answer_challenge_with_key).

@@ -21,7 +21,7 @@ pub struct Asking {
     /// The request.
     pub request: Request,
     /// The further peers whose permission it asks for, if it is a CreatePermission request (RFC 8656,
-    /// section 9).
+    /// section 10.1).
     pub others: ArrayVec<Endpoint, 15>,
 }
 

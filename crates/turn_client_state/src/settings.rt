@@ -16,7 +16,7 @@ pub struct Settings {
     /// The most peers. No client has more than 4096, the number of channel numbers. A dropped peer
     /// for which a channel was wanted counts for 900 seconds more.
     pub most_peers: u16,
-    /// The most peers that one CreatePermission request names (RFC 8656, section 9), 16 at most; below
+    /// The most peers that one CreatePermission request names (RFC 8656, section 10.1), 16 at most; below
     /// 2 each request names one. A request that names several is sent once: if no response comes by
     /// the first wait, or if the server refuses it, each peer is asked for alone.
     pub most_named: u8,
