@@ -4,7 +4,7 @@ use Rattle.std.proofs.Common.{◌≡◌, ◌<◌, inl, inr, ◌⊎◌, ℕ, zero
 use mathlib.Core.Logic.{⊎_elim}
 use Rattle.std.specs.List.{AllByRecursion, list_any}
 use Rattle.std.specs.Option.{option_map_or}
-use Rattle.std.specs.Prelude.{◌==◌, nat_lt, min, not, is_some, if◌then◌else◌}
+use Rattle.std.specs.Prelude.{◌==◌, nat_lt, min, is_some, if◌then◌else◌}
 use Rattle.std.proofs.lemmas.Bool.{cond_both, and_parts, or_cases, false≢true, true≢false}
 use Rattle.turn_client_machine.specs.Clients.{Endpoint, is_endpoint, Setup, Kind, Allocate, Refresh, Delete, Permit, Bind, Request, Pending, Phase, Quiet, Asking, Allocated, Closing, Ended, Peer, State, is_allocated, is_active, is_peer, is_rested, Useless}
 use Rattle.turn_client_machine.specs.Events.{Answer, Opened, Extended, Done, Refused, Challenged, Redirected, Violated, Event, allocates, permits, binds, drops, sends, closes, responds, gives, gives_on, strays, polls}
@@ -54,18 +54,12 @@ turned_same along setup clock fresh challenge p = cond_both (is_expired clock p.
 abbrev pub IsCalm : Peer → Peer → Type 0
 IsCalm p q = (is_single q ≡ true → is_single p ≡ true) × (is_together q ≡ true → (is_together p ≡ true) × (q.task.pending ≡ p.task.pending))
 
--- none is under way any more
-abbrev none_calm : (p q : Peer) → q.task.pending ≡ None → IsCalm p q
-none_calm p q none =
-    let rests : is_some q.task.pending ≡ false = ap (λ (o : Option Pending). is_some o) none in
-    (λ is. absurd (false≢true (sym rests ∙ (and_parts (is_some q.task.pending) (not q.shared) is).0)), λ is. absurd (false≢true (sym rests ∙ (and_parts (is_some q.task.pending) q.shared is).0)))
-
 granted_by_calm : (r : Request) (kind : Kind) (p : Peer) → IsCalm p (granted_by r kind p)
 granted_by_calm r Allocate p = (λ is. is, λ is. (is, refl))
 granted_by_calm r Refresh p = (λ is. is, λ is. (is, refl))
 granted_by_calm r Delete p = (λ is. is, λ is. (is, refl))
-granted_by_calm r (Permit peer) p = none_calm p (granted_by r (Permit peer) p) refl
-granted_by_calm r (Bind number peer) p = none_calm p (granted_by r (Bind number peer) p) refl
+granted_by_calm r (Permit peer) p = (λ is. absurd (false≢true is), λ is. absurd (false≢true is))
+granted_by_calm r (Bind number peer) p = (λ is. absurd (false≢true is), λ is. absurd (false≢true is))
 
 granted_calm_of : (p : Peer) (o : Option Pending) → IsCalm p (option_map_or (λ (q : Pending). granted_by q.request q.request.kind p) o p)
 granted_calm_of p None = (λ is. is, λ is. (is, refl))
@@ -75,16 +69,16 @@ pub granted_calm : (p : Peer) → IsCalm p (granted p)
 granted_calm p = granted_calm_of p p.task.pending
 
 turned_down_calm : (clock code : ℕ) (p : Peer) → IsCalm p (turned_down clock code p)
-turned_down_calm clock code p = cond_both (asks_instead code p) _ _ (IsCalm p) (λ _. none_calm p _ refl) (λ _. none_calm p _ refl)
+turned_down_calm clock code p = cond_both (asks_instead code p) _ _ (IsCalm p) (λ _. (λ is. absurd (false≢true is), λ is. absurd (false≢true is))) (λ _. (λ is. absurd (false≢true is), λ is. absurd (false≢true is)))
 
 challenged_calm : (setup : Setup) (challenge : Option ℕ) (clock code : ℕ) (p : Peer) → IsCalm p (challenged setup challenge clock code p)
-challenged_calm setup challenge clock code p = cond_both (may_retry setup challenge code p.task) _ _ (IsCalm p) (λ _. none_calm p _ refl) (λ _. none_calm p _ refl)
+challenged_calm setup challenge clock code p = cond_both (may_retry setup challenge code p.task) _ _ (IsCalm p) (λ _. (λ is. absurd (false≢true is), λ is. absurd (false≢true is))) (λ _. (λ is. absurd (false≢true is), λ is. absurd (false≢true is)))
 
 violated_calm : (setup : Setup) (p : Peer) → IsCalm p (violated_by setup p)
-violated_calm setup p = cond_both setup.is_reliable _ _ (IsCalm p) (λ _. none_calm p _ refl) (λ _. (λ is. is, λ is. (is, refl)))
+violated_calm setup p = cond_both setup.is_reliable _ _ (IsCalm p) (λ _. (λ is. absurd (false≢true is), λ is. absurd (false≢true is))) (λ _. (λ is. is, λ is. (is, refl)))
 
 wanting_calm : (clock : ℕ) (p : Peer) → IsCalm p (wanting clock p)
-wanting_calm clock p = cond_both p.over _ _ (IsCalm p) (λ _. none_calm p _ refl) (λ _. cond_both p.wants _ _ (IsCalm p) (λ _. (λ is. is, λ is. (is, refl))) (λ _. none_calm p _ refl))
+wanting_calm clock p = cond_both p.over _ _ (IsCalm p) (λ _. (λ is. absurd (false≢true is), λ is. absurd (false≢true is))) (λ _. cond_both p.wants _ _ (IsCalm p) (λ _. (λ is. is, λ is. (is, refl))) (λ _. (λ is. absurd (false≢true is), λ is. absurd (false≢true is))))
 
 -- ---- States
 
@@ -135,7 +129,7 @@ extended_peers (Bind number peer) r lifetime state = refl
 answered_peers : (L : List Peer → Type 0) (setup : Setup) → PeersChange L → (authentic : Bool) (answer : Answer) (state : State) (r : Request) → L state.peers → L (answered setup authentic answer state r).peers
 answered_peers L setup c authentic (Opened relayed mapped lifetime) state r few = cond_both (authentic && is_allocate r.kind) _ _ (λ (s : State). L s.peers)
     (λ _. cond_both (is_useful setup relayed lifetime) (opened r relayed mapped lifetime state) (deletes Useless state) (λ (s : State). L s.peers)
-    (λ _. c.mapped (reopened state.clock) (λ p. (refl, refl, λ w. w, λ u e. e)) (λ p. none_calm p (reopened state.clock p) refl) state.peers few) (λ _. few)) (λ _. few)
+    (λ _. c.mapped (reopened state.clock) (λ p. (refl, refl, λ w. w, λ u e. e)) (λ p. (λ is. absurd (false≢true is), λ is. absurd (false≢true is))) state.peers few) (λ _. few)) (λ _. few)
 answered_peers L setup c authentic (Extended lifetime) state r few = cond_both authentic _ _ (λ (s : State). L s.peers) (λ _. subst L (sym (extended_peers r.kind r lifetime state)) few) (λ _. few)
 answered_peers L setup c authentic Done state r few = few
 answered_peers L setup c authentic (Refused code) state r few = cond_both authentic _ _ (λ (s : State). L s.peers) (λ _. few) (λ _. few)
@@ -187,7 +181,7 @@ pub changes_peers : (L : List Peer → Type 0) (setup : Setup) → PeersChange L
 changes_peers L setup c fresh state allocates n isnt few = begins_peers L state.phase state few
 changes_peers L setup c fresh state (permits address) n isnt few = cond_both (list_any (covers address.ip) state.peers) _ _ L (λ _. few)
     (λ _. cond_both (list_any (is_peer address) state.peers) _ _ L
-    (λ _. c.changed (is_peer address) (restarted state.clock) (λ p. (refl, refl, λ w. w, λ u e. absurd cc)) (λ p. none_calm p (restarted state.clock p) refl) state.peers few)
+    (λ _. c.changed (is_peer address) (restarted state.clock) (λ p. (refl, refl, λ w. w, λ u e. absurd cc)) (λ p. (λ is. absurd (false≢true is), λ is. absurd (false≢true is))) state.peers few)
     (λ unknown. with_new_peers L setup state (permits address) n false address (inl refl) unknown few))
 changes_peers L setup c fresh state (binds address) n isnt few = cond_both (list_any (is_peer address) state.peers) _ _ L
     (λ _. c.changed (is_peer address) (wanting state.clock) (wanting_same state.clock) (wanting_calm state.clock) state.peers few)
