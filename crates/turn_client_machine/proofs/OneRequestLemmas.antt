@@ -75,12 +75,14 @@ same_some p q is = cc
 turned_one : (setup : Setup) (fresh : ℕ) (state : State) (p : Peer) (along : Bool) → (along ≡ true → (is_fit state.clock p ≡ true) × (list_any is_together state.peers ≡ false)) → find (is_next (is_free state.peers) state.clock) state.peers ≡ Some p
     → AreOne state.peers → AreOne (joined setup state.clock fresh state.challenge (most_others setup along) (turned_first setup fresh (is_free state.peers) along state))
 turned_one setup fresh state p true takes here one =
-    let parts = takes refl in
-    (fresh, joined_some (SharesOne fresh) setup state.clock fresh state.challenge (most_others setup true) (turned_first setup fresh (is_free state.peers) true state)
-    (λ q fit _ _. fit_shares setup state.clock fresh state.challenge q fit)
-    (each_changed (SharesOne fresh) (is_next (is_free state.peers) state.clock) (turned_of true setup state.clock fresh state.challenge) state.peers
-    (λ q _ found _. fit_shares setup state.clock fresh state.challenge q (ap (is_fit state.clock) (same_some q p (sym found ∙ here)) ∙ parts.0))
-    (none_together fresh state.peers parts.1)))
+    let parts = takes refl in (
+      fresh,
+      joined_some (SharesOne fresh) setup state.clock fresh state.challenge (most_others setup true) (turned_first setup fresh (is_free state.peers) true state)
+          (λ q fit _ _. fit_shares setup state.clock fresh state.challenge q fit)
+          (each_changed (SharesOne fresh) (is_next (is_free state.peers) state.clock) (turned_of true setup state.clock fresh state.challenge) state.peers
+          (λ q _ found _. fit_shares setup state.clock fresh state.challenge q (ap (is_fit state.clock) (same_some q p (sym found ∙ here)) ∙ parts.0))
+          (none_together fresh state.peers parts.1)),
+    )
 turned_one setup fresh state p false takes here one =
     (one.0, each_changed (SharesOne one.0) (is_next (is_free state.peers) state.clock) (turned_of false setup state.clock fresh state.challenge) state.peers (λ q _ _ _. alone_shares setup state.clock fresh state.challenge one.0 q) one.1)
 
