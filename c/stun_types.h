@@ -1621,7 +1621,7 @@ stun_types_answer stun_types_allocation_datagram(stun_types_allocation *client, 
 
 /* Writes the request that is to be sent to the server now: out[0 .. *length), or nothing if *length is 0.
    Nothing is to be sent before *wake, unless another call comes first; UINT64_MAX: never. id: random, new
-   at each call; it is the transaction ID if the request is a new one. 3,000 bytes have room for any
+   at each call; it is the transaction ID if the request is a new one. 3,400 bytes have room for any
    request.
    TOO_SMALL, OUT_OF_MEMORY: the request counts as sent, and lost; *length is 0. BAD_ARGUMENT, and nothing
    is written: there is no client. Allocates if it writes a request. */

@@ -120,7 +120,7 @@ impl TurnClient {
     /// - `TooLarge { expected: 513, actual }` if the user's name has more than 513 bytes;
     /// - `TooLarge` if the server's list of password algorithms makes it longer than a message can be;
     /// - `TooSmall { expected, actual }` if the request has `expected` bytes, more than `out`: the account,
-    ///   and the server's realm, nonce and password algorithms, decide how many.
+    ///   the server's realm, nonce and password algorithms, and the peers that it names decide how many.
     pub fn poll(
         &mut self,
         alloc: Global,
