@@ -36,14 +36,14 @@ judged_is sockets last_channel sets_df site transport (send_to peer bytes) d (is
     ap (judge last_channel sets_df site) text ∙ sent_read sockets last_channel sets_df site id peer bytes small is short (subst Fits text fits)
 judged_is sockets last_channel sets_df site transport (send_on channel bytes) d (is, short, text) =
     ap (judge last_channel sets_df site) text ∙ channel_read last_channel sets_df site transport channel bytes is short
-judged_is sockets last_channel sets_df site transport (asks r) d s = absurd s
+judged_is sockets last_channel sets_df site transport (asks r others) d s = absurd s
 judged_is sockets last_channel sets_df site transport (shows peer bytes) d s = absurd s
 judged_is sockets last_channel sets_df site transport nothing d s = absurd s
 
 event_is : (tuple : FiveTuple) (h : OuterState) (numbers : Families ℕ) (output : Output) (judged : Judged) → judged_as output judged → event_of tuple h numbers judged ≡ plain (at_server tuple output)
 event_is tuple h numbers (send_to peer bytes) judged e = ap (event_of tuple h numbers) e
 event_is tuple h numbers (send_on channel bytes) judged e = ap (event_of tuple h numbers) e
-event_is tuple h numbers (asks r) judged e = absurd e
+event_is tuple h numbers (asks r others) judged e = absurd e
 event_is tuple h numbers (shows peer bytes) judged e = absurd e
 event_is tuple h numbers nothing judged e = absurd e
 
@@ -57,7 +57,7 @@ done_with : (setup : Setup) (rules : Rules) (tuple : FiveTuple) (numbers : Famil
     → acted setup rules tuple numbers h now judged ≡ data_act (step setup rules h.state now (at_server tuple output)).output
 done_with setup rules tuple numbers h now (send_to peer bytes) judged e = ap (acted setup rules tuple numbers h now) e
 done_with setup rules tuple numbers h now (send_on channel bytes) judged e = ap (acted setup rules tuple numbers h now) e
-done_with setup rules tuple numbers h now (asks r) judged e = absurd e
+done_with setup rules tuple numbers h now (asks r others) judged e = absurd e
 done_with setup rules tuple numbers h now (shows peer bytes) judged e = absurd e
 done_with setup rules tuple numbers h now nothing judged e = absurd e
 
