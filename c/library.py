@@ -125,17 +125,20 @@ def refusal(name, result, parameters):
 
 
 def copies(parameters):
-    """The statements that copy a struct with slices, of which none is NULL; and the names of the copies."""
-    said, named = [], {}
+    """The statements that copy a struct with slices, if one of them is NULL; the copy has none."""
+    said = []
     for it in pointers(parameters):
-        slices = inside(it)
-        if slices:
-            named[it.name] = f"&{it.name}_copy"
-            said.append(f"{it.kind} {it.name}_copy = *{it.name};")
+        slices = [part.name for part in inside(it)]
+        if not slices:
+            continue
+        said.append(f"{it.kind} {it.name}_copy;")
+        said.append(f"if ({' || '.join(f'{it.name}->{part} == NULL' for part in slices)}) {{")
+        said.append(f"    {it.name}_copy = *{it.name};")
         for part in slices:
-            field = f"{it.name}_copy.{part.name}"
-            said.append(f"if ({field} == NULL) {field} = (const void *){it.name};")
-    return said, named
+            field = f"{it.name}_copy.{part}"
+            said.append(f"    if ({field} == NULL) {field} = (const void *){it.name};")
+        said += [f"    {it.name} = &{it.name}_copy;", "}"]
+    return said
 
 
 def source():
@@ -144,9 +147,8 @@ def source():
     for name, (result, parameters) in guarded().items():
         tests = [f"meet({a.name}, {a.bytes}, {b.name}, {b.bytes})" for a, b in pairs(parameters)]
         overlap = "\n        || ".join(tests)
-        said, named = copies(parameters)
-        names = [re.search(r"\w+$", it)[0] for it in parameters]
-        given = ", ".join(named.get(it, it) for it in names)
+        said = copies(parameters)
+        given = ", ".join(re.search(r"\w+$", it)[0] for it in parameters)
         declared = ", ".join(parameters)
         copied = "".join(f"    {it}\n" for it in said)
         refused = "".join(f"        {it}\n" for it in refusal(name, result, parameters))

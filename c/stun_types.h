@@ -1553,7 +1553,10 @@ typedef struct {
     uint16_t family;                /* of the relayed address and the peers: 4 or 6; 0: 4, which Allocate
                                        requests don't name, as for servers of RFC 5766 */
     uint16_t fingerprint;           /* not 0: requests have a FINGERPRINT */
-    uint64_t reserved;
+    uint32_t named;                 /* the most peers that one CreatePermission request names, at most 16;
+                                       0: 8. A request that names several is sent once: if no response
+                                       comes by the first wait, or an error, each peer is asked for alone */
+    uint32_t reserved;
 } stun_types_allocation_settings;
 
 /* Makes a client that hasn't asked for anything. It keeps copies of all that it is given, and takes memory
@@ -1618,8 +1621,8 @@ stun_types_answer stun_types_allocation_datagram(stun_types_allocation *client, 
 
 /* Writes the request that is to be sent to the server now: out[0 .. *length), or nothing if *length is 0.
    Nothing is to be sent before *wake, unless another call comes first; UINT64_MAX: never. id: random, new
-   at each call; it is the transaction ID if the request is a new one. 3,000 bytes have room for any
-   request.
+   at each call; it is the transaction ID if the request is a new one. 3,400 bytes have room for any
+   request, unless the server's list of password algorithms has more than 124 bytes.
    TOO_SMALL, OUT_OF_MEMORY: the request counts as sent, and lost; *length is 0. BAD_ARGUMENT, and nothing
    is written: there is no client. Allocates if it writes a request. */
 STUN_TYPES_NODISCARD STUN_TYPES_NONNULL((1, 3, 6, 7))
@@ -2268,7 +2271,8 @@ STUN_TYPES_LAYOUT(allocation_settings_retries, offsetof(stun_types_allocation_se
 STUN_TYPES_LAYOUT(allocation_settings_algorithm, offsetof(stun_types_allocation_settings, algorithm) == 96);
 STUN_TYPES_LAYOUT(allocation_settings_family, offsetof(stun_types_allocation_settings, family) == 100);
 STUN_TYPES_LAYOUT(allocation_settings_fingerprint, offsetof(stun_types_allocation_settings, fingerprint) == 102);
-STUN_TYPES_LAYOUT(allocation_settings_reserved, offsetof(stun_types_allocation_settings, reserved) == 104);
+STUN_TYPES_LAYOUT(allocation_settings_named, offsetof(stun_types_allocation_settings, named) == 104);
+STUN_TYPES_LAYOUT(allocation_settings_reserved, offsetof(stun_types_allocation_settings, reserved) == 108);
 STUN_TYPES_LAYOUT(allocation_data_size, sizeof(stun_types_allocation_data) == 40);
 STUN_TYPES_LAYOUT(allocation_data_at, offsetof(stun_types_allocation_data, at) == 0);
 STUN_TYPES_LAYOUT(allocation_data_length, offsetof(stun_types_allocation_data, length) == 8);

@@ -9,7 +9,7 @@ enum { ROOM_MOST = 2500, STEPS = 24 };
 static bool are_numbers(const stun_types_allocation_settings *it) {
     return it->reserved == 0 && (it->server.family == 4 || it->server.family == 6)
         && (it->transport == STUN_TYPES_UDP || it->transport == STUN_TYPES_TCP) && it->peers <= 4096
-        && it->sends <= 255 && it->retries <= 255 && it->algorithm <= 2
+        && it->named <= 16 && it->sends <= 255 && it->retries <= 255 && it->algorithm <= 2
         && (it->family == 0 || it->family == 4 || it->family == 6);
 }
 
@@ -50,6 +50,7 @@ static stun_types_allocation_settings *take_settings(source *from) {
     it->algorithm = take_below(from, 4, 16);
     it->family = (uint16_t)(take(from) % 8);
     it->fingerprint = (uint16_t)(take(from) % 2);
+    it->named = take_below(from, 18, 16);
     it->reserved = take(from) == 0;
     return it;
 }

@@ -177,7 +177,7 @@ void take_password(const char *password, size_t length);
 void take_lite(void);
 void take_candidate(const stun_types_address *address, const char *foundation, size_t length,
                     uint32_t priority);
-void skip_candidate(void); /* one of another transport or component, or of a name */
+void skip_candidate(bool is_named); /* one of another transport or component, or with a host name */
 void end_candidates(void);
 
 /* Whether the peer's credentials are known, and whether its candidates have ended. */

@@ -145,24 +145,36 @@ static const char *after(const char *line, const char *word) {
 static void take_candidate_line(const char *line) {
     stun_types_ice_candidate read;
     if (!is_fine(stun_types_ice_candidate_read(line, strlen(line), &read)) || read.transport != STUN_TYPES_UDP ||
-        read.component != 1 || (read.address.family != 4 && read.address.family != 6)) {
-        skip_candidate();
-        return;
+        read.component != 1) {
+        skip_candidate(false);
+    } else if (read.address.family != 4 && read.address.family != 6) {
+        skip_candidate(true);
+    } else {
+        take_candidate(&read.address, (const char *)read.foundation, read.foundation_length, read.priority);
     }
-    take_candidate(&read.address, (const char *)read.foundation, read.foundation_length, read.priority);
 }
 
-/* Takes an attribute; other lines of SDP count for nothing. */
-static void take_attribute(const char *line) {
+/* Takes what has to be known before the password. */
+static void take_fragment_line(const char *line) {
     const char *rest;
     if ((rest = after(line, "ice-ufrag:")) != NULL) take_fragment(rest, strlen(rest));
-    else if ((rest = after(line, "ice-pwd:")) != NULL) take_password(rest, strlen(rest));
-    else if (after(line, "candidate:") != NULL) take_candidate_line(line);
     else if ((rest = after(line, "ice-lite")) != NULL && *rest == 0) take_lite();
+}
+
+static void take_password_line(const char *line) {
+    const char *password = after(line, "ice-pwd:");
+    if (password != NULL) take_password(password, strlen(password));
+}
+
+/* Takes an attribute about candidates; other lines of SDP count for nothing. */
+static void take_attribute(const char *line) {
+    const char *rest;
+    if (after(line, "candidate:") != NULL) take_candidate_line(line);
     else if ((rest = after(line, "end-of-candidates")) != NULL && *rest == 0) end_candidates();
 }
 
-void take_line(const char *line, size_t length) {
+/* Passes each attribute of a line to a function. */
+static void take_line_by(void (*take)(const char *line), const char *line, size_t length) {
     for (size_t at = 0, end; at < length; at = end + 1) {
         char text[LINE_ROOM];
         for (end = at; end < length && line[end] != ';';) end++;
@@ -172,7 +184,24 @@ void take_line(const char *line, size_t length) {
         if (kept >= sizeof text) continue;
         memcpy(text, line + at, kept);
         text[kept] = 0;
-        take_attribute(text);
+        take(text);
+    }
+}
+
+static void take_any(const char *line) {
+    take_fragment_line(line);
+    take_password_line(line);
+    take_attribute(line);
+}
+
+void take_line(const char *line, size_t length) {
+    take_line_by(take_any, line, length);
+}
+
+static void take_lines_by(void (*take)(const char *line), const char *text, size_t length) {
+    for (size_t at = 0, end; at < length; at = end + 1) {
+        for (end = at; end < length && text[end] != '\n';) end++;
+        take_line_by(take, text + at, end - at);
     }
 }
 
@@ -201,8 +230,7 @@ void read_peer_file(void) {
     if (from == NULL) return;
     size_t length = fread(text, 1, sizeof text, from);
     fclose(from);
-    for (size_t at = 0, end; at < length; at = end + 1) {
-        for (end = at; end < length && text[end] != '\n';) end++;
-        take_line(text + at, end - at);
-    }
+    take_lines_by(take_fragment_line, text, length); /* (in SDP the attributes have any order) */
+    take_lines_by(take_password_line, text, length);
+    take_lines_by(take_attribute, text, length);
 }

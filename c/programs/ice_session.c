@@ -4,6 +4,7 @@
 #include <sys/random.h>
 
 enum { COMPONENT = 1, CHECK_ROOM = 1500, OWN_FRAGMENT = 8, OWN_PASSWORD = 24, MOST_FOUNDATIONS = MOST_CANDIDATES };
+enum { CHECKS_WAIT = 39500 }; /* milliseconds, the PAC timer of RFC 8863 */
 
 /* An agent, and the descriptions that it was made by. */
 typedef struct {
@@ -12,12 +13,14 @@ typedef struct {
     char peer_fragment[FRAGMENT_ROOM], peer_password[FRAGMENT_ROOM];
     bool has_peer, has_all;   /* the peer's credentials, and all its candidates, are known */
     bool is_stale;            /* the description that is read is that of the agent before */
+    bool has_names;           /* candidates of the peer are host names, of mDNS: their addresses come with its checks */
     bool has_ended;           /* no more candidates of either agent follow */
     size_t remotes, skipped;  /* candidates of the peer, and those that can't be used */
     char foundations[MOST_FOUNDATIONS][33];
     size_t foundation_count;
     stun_types_ice_progress progress;
     uint64_t wake; /* in nanoseconds */
+    uint64_t met; /* when the peer's credentials were known */
     uint64_t connect_until;
 } session;
 
@@ -179,6 +182,7 @@ static void meet(void) {
     of->has_peer = is_fine(answer);
     if (!of->has_peer) say(STATUS_REFUSED, "the peer's fragment or password: %s", stun_types_status_text(answer.code));
     else of->connect_until = now + asked.wait;
+    of->met = now;
 }
 
 /* Another fragment than the one before begins a restart (RFC 8445, section 9). */
@@ -232,12 +236,13 @@ void take_candidate(const stun_types_address *address, const char *foundation, s
     stun_types_answer answer = stun_types_ice_add_remote(&current->agent, now * MILLISECOND, &remote);
     if (answer.code == STUN_TYPES_EXISTS) return;
     if (is_fine(answer)) current->remotes++;
-    else skip_candidate();
+    else skip_candidate(false);
     if (bases[RELAY].is_there && bases[RELAY].address.family == address->family) permit(address, false);
 }
 
-void skip_candidate(void) {
+void skip_candidate(bool is_named) {
     current->skipped++;
+    if (is_named) current->has_names = true;
 }
 
 void end_candidates(void) {
@@ -415,9 +420,15 @@ static int turn_agent(session *of) {
     return status;
 }
 
+/* Whether no candidates are to be waited for, if need be for those that the peer's checks may come from (RFC 8863,
+ * section 4). */
+static bool has_all_known(const session *of) {
+    return of->has_all && is_description_ended() && (!of->has_names || (of->has_peer && now >= of->met + CHECKS_WAIT));
+}
+
 int turn_session(void) {
     session *of = current;
-    if (!of->has_ended && of->has_all && is_description_ended()) {
+    if (!of->has_ended && has_all_known(of)) {
         of->has_ended = is_fine(stun_types_ice_end_candidates(&of->agent, now * MILLISECOND));
     }
     int status = turn_agent(of);
@@ -437,5 +448,8 @@ static uint64_t wake_of(const session *of) {
 
 uint64_t session_wake(void) {
     uint64_t wake = sooner(wake_of(current), current->connect_until);
+    if (!current->has_ended && current->has_names && current->has_peer) {
+        wake = sooner(wake, current->met + CHECKS_WAIT < now ? NEVER : current->met + CHECKS_WAIT);
+    }
     return has_former ? sooner(wake, wake_of(former())) : wake;
 }

@@ -18,7 +18,7 @@ sys.path.insert(0, str(HERE.parent / "server/trials"))
 import turn_servers
 from hosts import Capture
 from ice_networks import INSIDE, KINDS, SERVER, Networks
-from steps import Skipped, build, c_compiler, check, run
+from steps import Skipped, Wrong, build, c_compiler, check, run
 
 PATIENCE = 60  # seconds, for what takes some on an idle machine
 LOCAL = ["-a", "127.0.0.1"]
@@ -235,15 +235,52 @@ def abandoned(programs):
         one.end(4)
 
 
+def reordered(programs):
+    """The lines of a description may have any order in a file, also when the peer restarts."""
+    with tempfile.TemporaryDirectory(prefix="stun-ice-") as folder:
+        def turn_over(event):
+            lines = event["line"].split(";")
+            pathlib.Path(folder, "new").write_text("".join(f"{line}\r\n" for line in ["v=0", *lines[::-1]]))
+            pathlib.Path(folder, "new").rename(f"{folder}/right")
+        with Side(programs["stun-ice"], *LOCAL, "-c", "-o", f"{folder}/left", "-p", f"{folder}/right") as one, \
+                Side(programs["stun-ice"], *LOCAL, "-p", f"{folder}/left") as other:
+            for count in (1, 2):
+                turn_over(other.wait_for("description", count))
+                talk(one, other, count)
+                exchange(one, other, b"%d" % count)
+                if count == 1:
+                    other.ran.send_signal(signal.SIGUSR2)
+            check(one.found("restart")["reason"] == "the peer has new credentials", one.told())
+            finish(one, other)
+
+
+def named(programs):
+    """A peer whose candidates have host names, as those of browsers, is found by its checks, which come later."""
+    with Side(programs["stun-ice"], *LOCAL, "-c") as one, Side(programs["stun-ice"], *LOCAL) as other:
+        line = other.wait_for("description")["line"]
+        one.write(line.replace(" 127.0.0.1 ", " 6403c10c-43af.local ").encode() + b"\n")
+        time.sleep(0.5)
+        other.write(one.wait_for("description")["line"].encode() + b"\n")
+        talk(one, other)
+        exchange(one, other)
+        finish(one, other)
+
+
 def lite(programs):
-    """A peer that only answers checks, which says that it is lite, or of which the user says so."""
-    for words, says in ((["-l"], ""), ([], "a=ice-lite;")):
+    """A peer that only answers checks, of which the user says so, or which says itself that it is lite, in a file also
+    at its end."""
+    described = ("a=ice-ufrag:abcd\na=ice-pwd:abcdefghijklmnopqrstuv\n"
+                 "a=candidate:1 1 UDP 2130706431 127.0.0.1 PORT typ host\na=end-of-candidates\n")
+    for words, text in ((["-l"], described), ([], f"a=ice-lite\n{described}"), (["-p"], f"{described}a=ice-lite\n")):
         command = [programs["ice_responder"], "127.0.0.1", "0", "abcd", "abcdefghijklmnopqrstuv", "7"]
-        with subprocess.Popen(command, stdin=subprocess.PIPE, stdout=subprocess.PIPE, text=True) as peer:
-            port = peer.stdout.readline().strip().rpartition(":")[2]
-            with Side(programs["stun-ice"], *LOCAL, *words) as one:
-                one.write(f"{says}a=ice-ufrag:abcd;a=ice-pwd:abcdefghijklmnopqrstuv;a=candidate:1 1 UDP 2130706431 "
-                          f"127.0.0.1 {port} typ host;a=end-of-candidates\n".encode())
+        with tempfile.NamedTemporaryFile("w") as file, subprocess.Popen(
+                command, stdin=subprocess.PIPE, stdout=subprocess.PIPE, text=True) as peer:
+            text = text.replace("PORT", peer.stdout.readline().strip().rpartition(":")[2])
+            pathlib.Path(file.name).write_text(text)
+            more = [file.name] if words == ["-p"] else []
+            with Side(programs["stun-ice"], *LOCAL, *words, *more) as one:
+                if not more:
+                    one.write(text.encode())
                 one.wait_for("connected")
                 one.ran.send_signal(signal.SIGTERM)
                 one.end()
@@ -427,6 +464,15 @@ class Echo:
             check(lines[-1], f"the other agent describes nothing after {lines[:-1]}")
         return b"".join(lines)
 
+    def take(self, description):
+        """Gives it the description that an event of a stun-ice has."""
+        self.ran.stdin.write(description["line"].replace(";", "\n").encode() + b"\n")
+        self.ran.stdin.flush()
+
+    def restart(self):
+        self.ran.stdin.write(b"restart\n")
+        self.ran.stdin.flush()
+
     def __enter__(self):
         return self
 
@@ -454,14 +500,53 @@ def with_other(programs, network, command, own, all_of, *words):
     with Echo(command, *words, host=right) as other, Side(programs["stun-ice"], *own, host=left) as one:
         description = other.described()
         one.write(description)
-        other.ran.stdin.write(one.wait_for("description")["line"].replace(";", "\n").encode() + b"\n")
-        other.ran.stdin.flush()
+        other.take(one.wait_for("description"))
         began = time.monotonic()
         took = one.wait_for("connected")["at"] - began
         echo(one, all_of)
         one.ran.send_signal(signal.SIGTERM)
         one.end()
     return took
+
+
+def restarted_with(programs, network, command, *words):
+    """Connects to another agent in the role that the first word names, and restarts ICE, once begun by this side and
+    once by the other. There is one pair, so that each `connected` is of another agent."""
+    left, right = sides_of(network)
+    with tempfile.TemporaryDirectory(prefix="stun-ice-") as folder, Echo(command, *words, host=right) as other, \
+            Side(programs["stun-ice"], "-4", *(["-c"] if words[0] == "controlled" else []), "-p", f"{folder}/peer",
+                 host=left) as one:
+        def describe():
+            pathlib.Path(folder, "new").write_bytes(other.described())
+            pathlib.Path(folder, "new").rename(f"{folder}/peer")
+        describe()
+        other.take(one.wait_for("description"))
+        one.wait_for("connected")
+        for count, begins in ((2, one), (3, other)):
+            if begins is one:
+                one.ran.send_signal(signal.SIGUSR2)
+                other.take(one.wait_for("description", count))
+                describe()
+            else:
+                other.restart()
+                describe()
+                other.take(one.wait_for("description", count))
+            began, pair = time.monotonic(), one.wait_for("connected", count)
+            exchange_with(one, b"%d" % count)
+            print(f"  {words[0]}, restarted by {'this side' if begins is one else 'it'}: "
+                  f"{max(0, pair['at'] - began):.2f} s", flush=True)
+        one.ran.send_signal(signal.SIGTERM)
+        one.end()
+
+
+def exchange_with(one, label):
+    """A line that comes back. It is written until it has come."""
+    for number in range(20):
+        one.write(b"%s.%d\n" % (label, number))
+        with contextlib.suppress(Wrong):
+            one.received(b"%s.%d\n" % (label, number), 0.5)
+            return
+    raise Wrong(f"nothing comes back: {one.told()}")
 
 
 def libnice_command(programs):
@@ -480,6 +565,17 @@ def aioice_command(_):
     if not os.path.exists(command[0]) or run([command[0], "-c", "import aioice"])[0] != 0:
         raise Skipped("it needs aioice, a package of Python")
     return command
+
+
+def pion_command(programs):
+    """Of Debian's package, which is found without modules."""
+    go, program = shutil.which("go"), f"{programs['folder']}/with_pion"
+    if not go or not os.path.exists("/usr/share/gocode/src/github.com/pion/ice/v2"):
+        raise Skipped("it needs Go and pion/ice (golang-github-pion-ice.v2-dev)")
+    own = {"GO111MODULE": "off", "GOPATH": "/usr/share/gocode", "GOCACHE": f"{programs['folder']}/go"}
+    status, _, told = run([go, "build", "-o", program, HERE / "sides/with_pion.go"], 300, env={**os.environ, **own})
+    check(status == 0, told[:2000])
+    return [program]
 
 
 def libnice(programs):
@@ -504,3 +600,30 @@ def aioice(programs):
             took = with_other(programs, network, command, own, all_of, role)
             print(f"  aioice {role}, ours {'controlling' if own else 'controlled'}: {took:.2f} s, {all_of} bytes each "
                   "way", flush=True)
+
+
+def pion(programs):
+    """An agent of pion likewise. It resolves no conflict of roles."""
+    command = pion_command(programs)
+    with Networks() as network:
+        for role, own in ROLES[:2]:
+            took = with_other(programs, network, command, own, SOME, role)
+            print(f"  pion {role}: {took:.2f} s, {SOME} bytes each way", flush=True)
+        for role in ("controlling", "controlled"):
+            restarted_with(programs, network, command, role)
+
+
+def restarted_libnice(programs):
+    """ICE is restarted with an agent of libnice in either role, begun by each side."""
+    command = libnice_command(programs)
+    with Networks() as network:
+        for role in ("controlling", "controlled"):
+            restarted_with(programs, network, command, role, "regular")
+
+
+def restarted_aioice(programs):
+    """The same with agents of aioice."""
+    command = aioice_command(programs)
+    with Networks() as network:
+        for role in ("controlling", "controlled"):
+            restarted_with(programs, network, command, role)

@@ -203,8 +203,11 @@ bool prepare_relays(const endpoints *of) {
 
 bool begin_relays(void) {
     relays.count = setting(ALLOCATIONS);
-    relays.all = calloc(relays.count, sizeof *relays.all);
-    return relays.all != NULL;
+    /* (of this a page is taken when it is used) */
+    uint8_t *room = calloc(relays.count * sizeof *relays.all + CACHE_LINE - 1, 1);
+    if (room == NULL) return false;
+    relays.all = (relay *)(room + -(uintptr_t)room % CACHE_LINE);
+    return true;
 }
 
 /* ---- The table ------------------------------------------------------------------------------- */

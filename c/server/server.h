@@ -394,15 +394,16 @@ bool may_pass_by(uint64_t *paid_until, uint32_t rate, size_t amount, uint64_t no
 
 /* ---- TURN (turn.c, relays.c, drain.c, users.c, nonces.c, hmac.c) ------------------------------------------------ */
 
-/* A client as a process sees it: its 5-tuple, and how it is reached. */
+/* A client as a process sees it: how it is reached, and its 5-tuple. What the data of a peer needs comes first, in
+ * one line of the cache. */
 typedef struct {
-    stun_types_five_tuple tuple;
-    struct sockaddr_storage to; /* over UDP, with the control message that names this machine's address */
     socklen_t to_length;
-    target_control control;
     size_t control_length;
     size_t connection; /* over TCP: its place in the table, and which of all it is */
     uint64_t serial;
+    struct sockaddr_storage to; /* over UDP, with the control message that names this machine's address */
+    target_control control;
+    stun_types_five_tuple tuple;
 } turn_client;
 
 /* The name of a user, as a request has it: the first bytes of a USERNAME, or a USERHASH. */
@@ -419,18 +420,20 @@ typedef struct {
 } relayed_data;
 
 /* The relay sockets of a process: each of a relayed address, in the slot that the low 24 bits of its number
- * say. */
+ * say. What a datagram to a peer needs is in the first line of the cache, and what one to the client needs also in the
+ * second. */
+enum { CACHE_LINE = 64 };
 typedef struct {
-    uint64_t number;
-    bool is_taken;
+    _Alignas(CACHE_LINE) uint64_t number;
     int socket;     /* -1: none */
     unsigned asked; /* how many datagrams are received from it at once */
-    uint64_t user;  /* other than 0 */
+    bool is_taken;
+    bool is_listed; /* whether the file of users had its user */
     relayed_data to_peer, to_client;
-    uint64_t octets_until, packets_until; /* when what has passed is paid for, by the two rates */
+    uint64_t user; /* other than 0 */
     turn_client client;
-    stun_types_hash hash; /* of the user, */
-    bool is_listed;       /* and whether the file of users had them */
+    uint64_t octets_until, packets_until; /* when what has passed is paid for, by the two rates */
+    stun_types_hash hash; /* of the user */
     stun_types_address relayed; /* what clients learn */
     uint64_t opened;            /* in nanoseconds */
     user_name name;

@@ -236,8 +236,8 @@ static void flush(void) {
     udp.owed = 0;
 }
 
-/* Serves whatever is ready: the batch of clients, and a few datagrams of each relay socket. */
-static void serve_turn(void) {
+/* Serves whatever is ready: the batch of clients, and a few datagrams of each relay socket. Returns when it began. */
+static uint64_t serve_turn(void) {
     struct epoll_event events[BATCH];
     int ready = epoll_wait(udp.poller, events, BATCH, 1000), got = 0;
     uint32_t rate = setting(RATE);
@@ -254,15 +254,16 @@ static void serve_turn(void) {
     send_to_peers();
     flush();
     for (int i = 0; i < got; i++) make_ready(i);
+    return now;
 }
 
 static void serve_turns(void) {
     uint64_t looked = nanoseconds();
     while (!ending) {
         raise_by(&udp.mine->beats, 1);
-        serve_turn();
-        if (nanoseconds() - looked < SECOND) continue;
-        looked = nanoseconds();
+        uint64_t now = serve_turn();
+        if (now - looked < SECOND) continue;
+        looked = now;
         look_after_relays();
     }
 }

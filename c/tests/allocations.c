@@ -105,6 +105,8 @@ static void test_settings(void) {
     WITH("another family", family, 5, WRONG);
     WITH("4,096 peers", peers, 4096, OK_ANSWER);
     WITH("4,097 peers", peers, 4097, WRONG);
+    WITH("16 peers in one request", named, 16, OK_ANSWER);
+    WITH("17 peers in one request", named, 17, WRONG);
     WITH("255 sendings", sends, 255, OK_ANSWER);
     WITH("256 sendings", sends, 256, WRONG);
     WITH("255 retries", retries, 255, OK_ANSWER);
@@ -194,6 +196,137 @@ static void test_polls(void) {
     stun_types_allocation_free(client);
 }
 
+/* ---- the longest request */
+
+/* The server of the longest request, and what it sends. */
+typedef struct {
+    slice user, password, realm, nonce;
+    uint8_t *bytes;
+    size_t length;
+} long_server;
+
+enum { SENT_MOST = 2000, LONGEST = 3284, PEERS_MOST = 16 };
+
+static void add_to(long_server *it, uint16_t type, slice value) {
+    ANSWERS(stun_types_add(it->bytes, SENT_MOST, &it->length, type, value.bytes, value.length), OK_ANSWER);
+}
+
+/* Begins the reply of a class to a request. */
+static void reply_to(long_server *it, slice request, stun_types_class class) {
+    it->bytes = room(SENT_MOST);
+    ANSWERS(stun_types_begin_reply(it->bytes, SENT_MOST, request.bytes, request.length, class, &it->length),
+            OK_ANSWER);
+}
+
+/* A 401 with the longest realm and nonce, whose nonce promises the list of password algorithms. */
+static void challenge_from(long_server *it, slice request) {
+    reply_to(it, request, STUN_TYPES_CLASS_ERROR);
+    ANSWERS(stun_types_add_error(it->bytes, SENT_MOST, &it->length, 401, "", 0), OK_ANSWER);
+    add_to(it, STUN_TYPES_ATTRIBUTE_REALM, it->realm);
+    add_to(it, STUN_TYPES_ATTRIBUTE_NONCE, it->nonce);
+    add_to(it, STUN_TYPES_ATTRIBUTE_PASSWORD_ALGORITHMS, hex("0002 0000 0001 0000"));
+}
+
+/* The allocation, signed with the user's key. */
+static void grant_from(long_server *it, slice request) {
+    const stun_types_address relayed = {{0x20, 1, 0x0D, 0xB8}, 50000, 6};
+    stun_types_key key = STUN_TYPES_KEY_INIT;
+    reply_to(it, request, STUN_TYPES_CLASS_SUCCESS);
+    ANSWERS(stun_types_add_xor_address(it->bytes, SENT_MOST, &it->length,
+                                       STUN_TYPES_ATTRIBUTE_XOR_RELAYED_ADDRESS, &relayed), OK_ANSWER);
+    ANSWERS(stun_types_add_xor_address(it->bytes, SENT_MOST, &it->length, STUN_TYPES_ATTRIBUTE_XOR_MAPPED_ADDRESS,
+                                       &server), OK_ANSWER);
+    ANSWERS(stun_types_add_u32(it->bytes, SENT_MOST, &it->length, STUN_TYPES_ATTRIBUTE_LIFETIME, 600), OK_ANSWER);
+    ANSWERS(stun_types_key_long_term(&key, it->user.bytes, it->user.length, it->realm.bytes, it->realm.length,
+                                     it->password.bytes, it->password.length, STUN_TYPES_PASSWORD_SHA256),
+            OK_ANSWER);
+    ANSWERS(stun_types_add_integrity(it->bytes, SENT_MOST, &it->length, &key, STUN_TYPES_INTEGRITY_SHA256),
+            OK_ANSWER);
+    stun_types_key_free(&key);
+}
+
+/* The client's next request, which has a room of 3,400 bytes. */
+static slice long_request(stun_types_allocation *client, uint8_t number) {
+    stun_types_id its_id = {{0}};
+    uint8_t *out = room(3400);
+    size_t *length = NEW(size_t);
+    uint64_t *wake = NEW(uint64_t);
+    its_id.bytes[11] = number;
+    ANSWERS(stun_types_allocation_poll(client, 0, &its_id, out, 3400, length, wake), OK_ANSWER);
+    CHECK(*length > 0 && is_untouched(out + *length, 3400 - *length));
+    return given(out, *length);
+}
+
+static void send_to(stun_types_allocation *client, const long_server *it) {
+    stun_types_allocation_data *data = NEW(stun_types_allocation_data);
+    ANSWERS(stun_types_allocation_datagram(client, 0, &server, it->bytes, it->length, data), OK_ANSWER);
+    CHECK(data->shown == 0);
+}
+
+/* How many peers a message names, by the last octets of their addresses: the transaction ID is zeros. */
+static size_t peers_of(slice message) {
+    stun_types_cursor cursor = stun_types_cursor_first();
+    stun_types_attribute found;
+    uint32_t seen = 0;
+    size_t count = 0;
+    while (stun_types_next(message.bytes, message.length, &cursor, &found)) {
+        if (found.type == STUN_TYPES_ATTRIBUTE_XOR_PEER_ADDRESS) seen |= 1u << message.bytes[found.value_at + 19];
+    }
+    for (; seen != 0; seen >>= 1) count += seen & 1;
+    return count;
+}
+
+/* A client of IPv6 peers whose next request is the longest: the user, the realm, the nonce and the software
+ * are as long as they may be, and the request names 16 peers. */
+static stun_types_allocation *long_client(void) {
+    stun_types_allocation_settings *settings = good_settings();
+    long_server it = {hex("75*508"), text("secret"), hex("72*763"), joined(text("obMatJos2gAAA"), hex("6E*750")),
+                      NULL, 0};
+    const slice software = hex("73*763");
+    stun_types_allocation *client;
+    stun_types_address other = {{0x20, 1, 0x0D, 0xB8}, 4000, 6};
+    size_t at;
+    settings->user = it.user.bytes;
+    settings->user_length = it.user.length;
+    settings->password = it.password.bytes;
+    settings->password_length = it.password.length;
+    settings->software = software.bytes;
+    settings->software_length = software.length;
+    settings->fingerprint = 1;
+    settings->family = 6;
+    settings->named = PEERS_MOST;
+    client = client_of(settings);
+    ANSWERS(stun_types_allocation_want(client, 0, STUN_TYPES_ALLOCATION_ALLOCATE, &other), OK_ANSWER);
+    challenge_from(&it, long_request(client, 1));
+    send_to(client, &it);
+    grant_from(&it, long_request(client, 2));
+    send_to(client, &it);
+    for (at = 0; at <= PEERS_MOST; at++) {
+        other.octets[15] = (uint8_t)at;
+        ANSWERS(stun_types_allocation_want(client, 0, STUN_TYPES_ALLOCATION_PERMIT, &other), OK_ANSWER);
+    }
+    return client;
+}
+
+/* Its longest request, which a poll has so many bytes for. */
+static void check_longest(const char *name, size_t size, stun_types_answer expected) {
+    stun_types_allocation *client;
+    uint8_t *out;
+    size_t *length, written;
+    uint64_t *wake;
+    row("a TURN client", name);
+    out = room(size);
+    length = NEW(size_t);
+    wake = NEW(uint64_t);
+    client = long_client();
+    ANSWERS(stun_types_allocation_poll(client, 0, &id, out, size, length, wake), expected);
+    written = *length;
+    CHECK(is_untouched(out + written, size - written));
+    if (expected.code == STUN_TYPES_OK) CHECK(written == LONGEST && peers_of(given(out, written)) == PEERS_MOST);
+    else CHECK(written == 0);
+    stun_types_allocation_free(client);
+}
+
 /* ---- attempts */
 
 static bool follows(stun_types_allocation_attempt *attempt, uint32_t why, uint16_t code,
@@ -250,5 +383,8 @@ void test_allocations(void) {
     test_settings();
     test_wishes();
     test_polls();
+    check_longest("the longest request", LONGEST, OK_ANSWER);
+    check_longest("a byte too few for the longest request", LONGEST - 1,
+                  LENGTHS(STUN_TYPES_TOO_SMALL, LONGEST, LONGEST - 1));
     check_attempts();
 }

@@ -30,7 +30,8 @@ RULES = {
 # What the RFC leaves to an agent, or has otherwise: as the library's documentation says.
 CHOICES = {
     "clock-back": "-", "candidate-in-use": "5.1.3", "no-room-for-a-candidate": "6.1.2.5", "again": "7.2.4",
-    "late-success": "7.2.5", "last-of-equals": "6.1.2.3", "patience": "8.1.1", "picked-lost": "8.1.1", "lost-for-ever": ":5.1",
+    "late-success": "7.2.5", "last-of-equals": "6.1.2.3", "patience": "8.1.1",
+    "patience-of-the-first": "8.1.1", "picked-lost": "8.1.1", "lost-for-ever": ":5.1",
     "data-of-stranger": "12.2", "refused": "7.3", "too-short-for-an-error": "7.3", "unknown-base": "7.3", "forgotten": "7.2.5",
     "component-checks": "8.1.2", "component-failed": "8.1.2", "component-lost": ":5.1",
     "role-reported": "7.3.1.1", "loss-reported": ":5.1", "status-reported": "8.1.2", "other-pair-reported": "8.1.1",
@@ -266,7 +267,10 @@ class Agent:
         best = self.priority(its)
         if not any(it.is_open() and self.priority(it) > best for it in same):
             return True
-        return self.now >= its.valid_since + self.setup.patience
+        return any(self.is_long_valid(it) for it in same)
+
+    def is_long_valid(self, its):
+        return its.state == SUCCEEDED and self.now >= its.valid_since + self.setup.patience
 
     def next_check(self):
         """The pair that a request is sent on, with the rule; None if none is due."""
@@ -303,7 +307,7 @@ class Agent:
             if any(it.state == FROZEN and self.priority(it) > self.priority(its) for it in rivals):
                 self.note("held-by-foundation")
         if rule == "nominates" and any(it.is_open() and self.priority(it) > self.priority(its) for it in self.checklist):
-            self.note("patience")
+            self.note("patience" if self.is_long_valid(its) else "patience-of-the-first")
         self.note(rule)
         return self.send_check(its, identity)
 

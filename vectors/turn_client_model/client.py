@@ -20,6 +20,7 @@ RULES = {
     # time
     "first-sending": ":6.2.1", "sent-again": ":6.2.1", "sent-enough": ":6.2.1", "silent": ":6.2.1",
     "violated": ":9.2.5", "peer-silent": ":6.2.1", "peer-violated": ":9.2.5", "ten-at-once": ":6.2", "nothing-due": ":6.2.1",
+    "several-at-once": "10.1", "alone-since-none-answered": "10.1",
     # a datagram
     "from-elsewhere": ":6.3", "no-message": ":5", "not-for-a-client": ":6.3", "no-such-request": ":6.3",
     "without-its-list": ":9.2.5", "unsigned-400": ":9.2.5", "unsigned": ":9.2.5",
@@ -32,7 +33,7 @@ RULES = {
     "elsewhere": ":10", "elsewhere-later": ":10", "allocated": "7.3", "useless": "7.3", "too-short": "8.3",
     "refreshed": "8.3", "deleted": "8.3", "delete-refused": "8.3",
     # of a peer
-    "mismatch": "8.3", "channel-refused": "12.3", "peer-refused": "10.3", "permitted": "10.3", "bound": "12.3",
+    "mismatch": "8.3", "channel-refused": "12.3", "several-refused": "10.2", "peer-refused": "10.3", "permitted": "10.3", "bound": "12.3",
     # data
     "not-allocated": "11.1", "over": "6", "sent-on-a-channel": "12.5", "sent": "11.1", "not-permitted": "9",
     "shown": "11.4", "shown-on-a-channel": "12.6", "shown-early": "12", "data-not-permitted": "11.4",
@@ -46,7 +47,10 @@ PERMISSION_LIFETIME, CHANNEL_LIFETIME, MARGIN = 300, 600, 20
 REST = CHANNEL_LIFETIME + 300
 LEAST_LIFETIME = 80
 CHANNELS = range(0x4000, 0x5000)
-PEERS_AT_ONCE = 9
+# Ten requests at once: one for the allocation, one for several peers, and the others for a peer each (RFC 8489, 6.2).
+PEERS_AT_ONCE = 8
+# How much earlier than it is due a permission is asked for together with others; and how many peers a request names.
+AHEAD, MOST_NAMED = 30, 16
 
 
 def spelled(endpoint):
@@ -65,6 +69,7 @@ class Settings:
     family: str | None
     seconds: int | None
     peers: int = 32
+    named: int = 8
     sends: int = 7
     retries: int = 3
     rto: Fraction = Fraction(1, 2)
@@ -141,6 +146,7 @@ class Peer:
     permitted_until: Fraction = Fraction(0)
     bound_until: Fraction = Fraction(0)
     has_wanted_a_channel: bool = False
+    is_shared: bool = False  # the latest request since it was granted named other peers too
     rests_until: Fraction | None = None  # of one that was dropped
 
     def __post_init__(self):
@@ -148,7 +154,7 @@ class Peer:
 
     def restart(self, now):
         self.is_over, self.permitted_until, self.bound_until = False, Fraction(0), Fraction(0)
-        self.need, self.rests_until = Need.begun(now), None
+        self.need, self.rests_until, self.is_shared = Need.begun(now), None, False
 
     def permits(self, address, now):
         return self.endpoint[0] == address and now < self.permitted_until
@@ -225,7 +231,7 @@ class Client:
             rule = "asked-anew"
         else:
             deadline = min(peer.need.deadline, self.now + TO_BEGIN)
-            peer.need = Need(min(peer.need.deadline, self.now), deadline)
+            peer.need, peer.is_shared = Need(min(peer.need.deadline, self.now), deadline), False
             rule = "binds-a-permitted"
         peer.wants_channel = peer.has_wanted_a_channel = True
         return self.say(rule)
@@ -277,9 +283,22 @@ class Client:
         return self.say("nothing-due")
 
     def may_turn(self, peer):
-        """At most ten requests are under way, one of them for the allocation (RFC 8489, 6.2)."""
-        under_way = sum(it.need.request is not None for it in self.peers)
-        return under_way < PEERS_AT_ONCE or peer.need.request is not None or peer.need.deadline <= self.now
+        """At most ten requests are under way, one of them for the allocation, and one for several peers (RFC 8489, 6.2)."""
+        alone = sum(it.need.request is not None and not it.is_shared for it in self.peers)
+        is_alone = peer.need.request is not None and not peer.is_shared
+        return alone < PEERS_AT_ONCE or is_alone or peer.need.deadline <= self.now
+
+    def may_share(self, peer):
+        """Whether a request for other peers may ask for its permission too (10.1)."""
+        is_free = not (peer.is_over or peer.wants_channel or peer.is_shared or peer.need.request)
+        return is_free and self.now < peer.need.deadline and peer.need.due <= self.now + AHEAD
+
+    def others_with(self, peer):
+        """The further peers that the request for this one names: if there are any, no other request names several."""
+        if not self.may_share(peer) or any(it.is_shared and it.need.request for it in self.peers):
+            return []
+        fit = [it for it in reversed(self.peers) if it is not peer and self.may_share(it)]
+        return fit[: max(min(self.settings.named, MOST_NAMED) - 1, 0)]
 
     def turn_of_the_allocation(self):
         if self.now < self.need.deadline:
@@ -293,11 +312,25 @@ class Client:
 
     def turn_of(self, peer):
         if self.now < peer.need.deadline:
-            number = peer.number if peer.wants_channel else None
-            return self.send_request(peer.need, "bind" if peer.wants_channel else "permit", peer=peer.endpoint, number=number)
+            return self.ask_for(peer, self.others_with(peer))
         if peer.need.is_violated:
             return self.give_up("peer-violated", peer, 0, "integrity")
         return self.give_up("peer-silent", peer, 0)
+
+    def ask_for(self, peer, others):
+        if peer.is_shared and peer.need.request:
+            # (a request that named several was sent once; now each is asked for alone)
+            peer.need.request = None
+            self.note("alone-since-none-answered")
+        peer.is_shared = bool(others)
+        if peer.wants_channel:
+            return self.send_request(peer.need, "bind", peers=[peer.endpoint], number=peer.number)
+        if others:
+            self.note("several-at-once")
+        self.send_request(peer.need, "permit", peers=[peer.endpoint, *(it.endpoint for it in others)])
+        for it in others:
+            it.is_shared, it.need.request = True, peer.need.request
+            it.need.due = min(it.need.deadline, self.now + self.settings.wait(1))
 
     def send_request(self, need, kind, **content):
         request = need.request
@@ -378,16 +411,18 @@ class Client:
 
     def respond(self, message):
         """A response is for a request under way, with its method and transaction ID (RFC 8489, 6.3)."""
-        needs = [(self.need, None)] if self.is_active() else []
-        needs += [(it.need, it) for it in self.peers] if self.phase == "allocated" else []
-        for need, peer in needs:
+        def is_for(need):
             request = need.request
-            if request and request.identity == message.identity and wire.METHODS[request.kind] == message.method:
-                answer = reading.answer_to(message, request, self)
-                if answer is None:
-                    return None
-                return self.answer_peer(peer, answer) if peer else self.answer(answer)
-        return self.say("no-such-request")
+            return request and request.identity == message.identity and wire.METHODS[request.kind] == message.method
+
+        if self.is_active() and is_for(self.need):
+            answer = reading.answer_to(message, self.need.request, self)
+            return answer and self.answer(answer)
+        peers = [it for it in self.peers if is_for(it.need)] if self.phase == "allocated" else []
+        if not peers:
+            return self.say("no-such-request")
+        answer = reading.answer_to(message, peers[0].need.request, self)
+        return answer and self.answer_peers(peers, answer)
 
     def may_answer(self, need, code):
         """Whether a challenge is answered: a 438, or the first 401 (9.2.5)."""
@@ -437,15 +472,24 @@ class Client:
                 peer.restart(self.now)
         return self.say("allocated", f"allocated:{':'.join(map(spelled, addresses))}:{moment(self.expires)}")
 
-    def answer_peer(self, peer, answer):
+    def answer_peers(self, peers, answer):
+        """An answer is for each peer that the request named."""
+        if answer.kind == "error" and answer.is_authentic and answer.code == 437:
+            return self.end("mismatch", "437")
+        answered = [it for it in peers if answer.kind == "challenge" and self.may_answer(it.need, answer.code)]
+        if answer.kind == "challenge":
+            self.login = answer.values[0]
+        for peer in peers:
+            self.answer_peer(peer, answer, any(it is peer for it in answered))
+
+    def answer_peer(self, peer, answer, is_answered):
         need = peer.need
         if answer.kind == "challenge":
-            is_answered = self.may_answer(need, answer.code)
-            self.login = answer.values[0]
             if not is_answered:
                 return self.give_up("challenged-too-often", peer, answer.code)
             need.again(self.now)
             need.retries += 1
+            peer.is_shared = False
             return self.say("challenged")
         if answer.kind == "violation":
             need.is_violated = True
@@ -461,19 +505,21 @@ class Client:
         return self.grant_peer(peer, need.request)
 
     def refuse_peer(self, peer, answer):
-        if answer.code == 437:
-            return self.end("mismatch", "437")
         # (no further request to a server that refuses the credentials: 7.4)
         if peer.wants_channel and answer.code not in (401, 438):
             peer.wants_channel = False
             peer.need.again(self.now)
             return self.say("channel-refused", f"no-channel:{spelled(peer.endpoint)}")
+        if peer.is_shared and answer.code not in (401, 438):
+            # (any of the peers may be the reason: each is asked for alone)
+            peer.need.again(self.now)
+            return self.say("several-refused")
         return self.give_up("peer-refused" if answer.rule == "error" else answer.rule, peer, answer.code)
 
     def grant_peer(self, peer, request):
         before = peer.permitted_until, peer.bound_until
         peer.permitted_until = request.since + PERMISSION_LIFETIME
-        peer.need = Need.granted(request.since, PERMISSION_LIFETIME)
+        peer.need, peer.is_shared = Need.granted(request.since, PERMISSION_LIFETIME), False
         name = spelled(peer.endpoint)
         if request.kind == "permit":
             word = f"permitted:{name}:{moment(peer.permitted_until)}"

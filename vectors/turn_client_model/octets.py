@@ -57,7 +57,7 @@ def lifetime(seconds):
     return wire.LIFETIME, seconds.to_bytes(4)
 
 
-def request(kind, identity, login, seconds=None, family=None, peer=None, number=None):
+def request(kind, identity, login, seconds=None, family=None, peers=(), number=None):
     """A request, of one of these kinds, unsigned if there is no login."""
     parts = [] if seconds is None else [lifetime(seconds)]
     if kind == "allocate":
@@ -66,8 +66,7 @@ def request(kind, identity, login, seconds=None, family=None, peer=None, number=
             parts.append((wire.FAMILY, bytes([FAMILIES[family], 0, 0, 0])))
     if kind == "bind":
         parts.append((wire.CHANNEL_NUMBER, number.to_bytes(2) + bytes(2)))
-    if peer:
-        parts.append((wire.PEER, wire.xor_address(identity, peer)))
+    parts += [(wire.PEER, wire.xor_address(identity, it)) for it in peers]
     parts += login.parts() if login else []
     octets = message("request", kind, identity, parts)
     return wire.signed(octets, login.key(), login.hash_name()) if login else octets

@@ -18,7 +18,7 @@ class Trial:
 
     def __init__(self, seed, length):
         self.pick = random.Random(seed)
-        options = self.pick.choice(["", "", "", ":peers-2", ":sends-2", ":retries-1", ":md5", ":rto-100"])
+        options = self.pick.choice(["", "", "", ":peers-2", ":named-1", ":named-2", ":sends-2", ":retries-1", ":md5", ":rto-100"])
         self.transport, self.family = self.pick.choice(["udp", "udp", "udp", "tcp"]), self.pick.choice(["-", "-", "ipv4", "ipv6"])
         self.settings = f"{self.transport}:{self.family}:{self.pick.choice(['-', '3600'])}{options}"
         self.client = Client(Settings.read(self.settings))

@@ -134,6 +134,8 @@ class Row:
             content = {"seconds": self.seconds, **content}
         if kind == "allocate":
             content["family"] = self.family
+        if "peer" in content:
+            content["peers"] = [content.pop("peer")]
         octets = spoken.request(kind, order.to_bytes(12), login, **content)
         tag = TAGS.get(login, "") if login else ""
         return "to-server:" + named(f"{name or kind}-{order}{tag}", octets)
@@ -149,6 +151,10 @@ class Row:
 
     def asks_to_permit(self, endpoint):
         return self.asks("permit", peer=endpoint)
+
+    def asks_for(self, *endpoints):
+        """The same for several peers in one request."""
+        return self.asks("permit", peers=endpoints)
 
     def asks_to_bind(self, endpoint, number=0x4000):
         return self.asks("bind", peer=endpoint, number=number)
@@ -237,6 +243,11 @@ class Row:
     def is_permitted(self, endpoint):
         """The answer to a CreatePermission request at the moment at which it was sent."""
         return self.take(self.success("permit", self.requests), f"permitted:{address_word(endpoint)}:{moment(self.now + 300)}")
+
+    def are_permitted(self, *endpoints, number=None):
+        """The answer to one for several peers, in the order in which they were named by the user."""
+        words = [f"permitted:{address_word(it)}:{moment(self.now + 300)}" for it in endpoints]
+        return self.take(self.success("permit", number or self.requests), *words)
 
     def is_bound(self, endpoint, number=0x4000):
         word = f"bound:{address_word(endpoint)}:{number:04x}:{moment(self.now + 600)}"

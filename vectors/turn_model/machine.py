@@ -32,6 +32,9 @@ RULES = {
     "no-socket": "11.3", "peer-without-permission": "9", "forbidden-peer": "9", "peer-on-channel": "12.7",
     "peer-data": "11.3", "too-long": "11.3", "icmp-off": "11.5", "icmp-of-another-type": "11.5",
     "icmp-without-permission": "11.5", "icmp": "11.5",
+    # a channel that is relayed both ways
+    "flow-by-allocation": "6", "flow-by-channel": "12", "flow-by-permission": "9", "flow-unpermitted": "9",
+    "flow-unbound": "12",
     # the IP header of data that is relayed
     "header-within-ipv4": "14", "header-translated": "13", "no-hop-left": "13.2", "header-after-tcp": "15",
     # time, and the caller
@@ -179,6 +182,7 @@ class Server:
         self.closed = []  # the numbers of the sockets that this event closes
         self.reservations, self.over = [], []  # those that hold, and the tokens of those that are over now
         self.ports = {}  # of each socket, by its number
+        self.moment = Fraction(0)  # that of the last event
 
     def note(self, rule, output):
         assert rule in RULES, rule
@@ -190,7 +194,7 @@ class Server:
 
     def begin(self):
         """An event begins: what has expired ends before it counts (6)."""
-        self.closed = []
+        self.closed, self.moment = [], self.now
         if self.end(lambda it: it.end <= self.now):
             self.fired.append("expired")
         self.over = [it.token for it in self.reservations if it.end <= self.now]
@@ -468,6 +472,22 @@ class Server:
         if peer[0] not in self.permissions_of(its) or not is_allowed(peer[0], self.denied):
             return self.note("icmp-without-permission", "dropped")
         return self.note("icmp", f"icmp:{its.tuple.name}:{spelled(peer)}:{type_}:{code}:{mtu}")
+
+    def flow(self, client, number):
+        """The socket and the peer of a channel whose data is relayed both ways at the moment of the last event, and
+        until when: the client's data needs the channel (12.6), the peer's the permission too (9)."""
+        for its in self.of(client):
+            peer, end = its.channels.get(number, (None, 0))
+            if end <= self.moment:
+                continue
+            permitted = its.permissions.get(peer[0], 0)
+            if permitted <= self.moment:
+                return self.note("flow-unpermitted", "no-flow")
+            ends = [(its.end, "allocation"), (end, "channel"), (permitted, "permission")]
+            first, name = min(ends)
+            whole, part = divmod(int(first * 10**9), 10**9)
+            return self.note(f"flow-by-{name}", f"flow:{its.number}:{spelled(peer)}:{whole}.{part:09}")
+        return self.note("flow-unbound", "no-flow")
 
     # time, and the caller
 

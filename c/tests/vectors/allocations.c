@@ -61,6 +61,7 @@ static void set_option(stun_types_allocation_settings *settings, const char *opt
     if (strcmp(option, "md5") == 0) settings->algorithm = STUN_TYPES_PASSWORD_MD5;
     else if (strcmp(option, "sha256") == 0) settings->algorithm = STUN_TYPES_PASSWORD_SHA256;
     else if (number_after(option, "peers") != 0) settings->peers = number_after(option, "peers");
+    else if (number_after(option, "named") != 0 && number_after(option, "named") <= 16) settings->named = number_after(option, "named");
     else if (number_after(option, "sends") != 0) settings->sends = number_after(option, "sends");
     else if (number_after(option, "retries") != 0) settings->retries = number_after(option, "retries");
     else if (number_after(option, "rto") != 0) settings->rto = number_after(option, "rto");

@@ -1,3 +1,4 @@
+pub mod HeldLemmas
 pub mod TriedLemmas
 pub mod ListsLemmas
 pub mod PairsLemmas

@@ -1,5 +1,5 @@
 -- From when on tests hold, and what a poll does by then.
-use Rattle.std.proofs.Common.{◌≡◌, ℕ, ◌+◌, ◌*◌, ◌^◌, ◌<◌, ◌≤◌, inl, inr, ◌||◌, ◌&&◌, Bool, true, false, cond, List, [], ◌∷◌, map, filter, max, min, Option, None, Some, refl, sym, subst, ap, ◌∙◌, arith}
+use Rattle.std.proofs.Common.{◌≡◌, ℕ, ◌+◌, ◌*◌, ◌^◌, ◌<◌, ◌≤◌, inl, inr, ◌||◌, ◌&&◌, Bool, true, false, not, cond, List, [], ◌∷◌, map, filter, max, min, Option, None, Some, refl, sym, subst, ap, ◌∙◌, arith}
 use Rattle.std.specs.Prelude.{nat_lt, nat_le, is_some, if◌then◌else◌}
 use Rattle.std.specs.List.{list_any}
 use Rattle.std.specs.Option.{option_map_or}
@@ -7,14 +7,15 @@ use Rattle.std.proofs.lemmas.Bool.{cond-false, cases_Bool, le-leb, ltb-true, ltb
 use Rattle.std.proofs.lemmas.Bool.Decides.{nat_tests}
 use Rattle.ice_machine.specs.declared.pairs.Pair.{Pair}
 use Rattle.ice_machine.specs.declared.pairs.PairState.TheVariants.{Failed, Lost}
-use Rattle.ice_machine.specs.Agents.{Setup, State}
+use Rattle.ice_machine.specs.Agents.{Setup, State, is_succeeded}
+use Rattle.ice_machine.specs.Roles.{is_controlling}
 use Rattle.ice_machine.specs.Events.{polls}
 use Rattle.ice_machine.specs.Pairs.{better, best}
-use Rattle.ice_machine.specs.Checks.{urgency, precedence, score, most_urgent}
+use Rattle.ice_machine.specs.Checks.{is_settled_in, is_hoped_for, urgency, precedence, score, most_urgent}
 use Rattle.ice_machine.specs.Steps.{Step, settled, is_unanswered, is_over, is_awaited, at, step, does_nothing, asks_on, is_open, polled}
 use Rattle.ice_machine.specs.Bounds.{is_asking}
 use Rattle.ice_agent_state.specs.Agents.{Held}
-use Rattle.ice_agent_state.specs.Waking.{ends_by, some_by, IsEventful, IsQuiet, IsNextWake, HoldsFrom, sooner, asks_by, in_width, wake_of}
+use Rattle.ice_agent_state.specs.Waking.{ends_by, some_by, IsEventful, IsQuiet, IsNextWake, HoldsFrom, is_choice_by, is_long_valid_by, sooner, asks_by, in_width, wake_of}
 
 le_min : (m n k : ℕ) → (nat_le m k || nat_le n k) ≡ nat_le (min m n) k
 le_min m n k = grind (arith, nat_tests)
@@ -38,6 +39,21 @@ either f g None None one other = λ now small. rw (one now small, other now smal
 either f g None (Some n) one other = λ now small. rw (one now small, other now small) refl
 either f g (Some m) None one other = λ now small. rw (one now small, other now small) (or_false (nat_le m now))
 either f g (Some m) (Some n) one other = λ now small. rw (one now small, other now small) (le_min m n now)
+
+chosen_when : (setup : Setup) (state : State) (p : Pair) (now : ℕ) → is_controlling state.role ≡ true → is_succeeded p.state ≡ true → list_any (is_settled_in p) state.pairs ≡ false → list_any (is_hoped_for state p) state.pairs ≡ true
+    → is_choice_by setup state p now ≡ some_by (is_long_valid_by setup state p) state.pairs now
+chosen_when setup state p now controls valid none waits =
+    let long : Bool = some_by (is_long_valid_by setup state p) state.pairs now in
+    let hopes : Bool = list_any (is_hoped_for state p) state.pairs in
+    let rest : Bool = not (list_any (is_settled_in p) state.pairs) && (not hopes || long) in
+    ap (λ (b : Bool). b && (is_succeeded p.state && rest)) controls ∙ ap (λ (b : Bool). b && rest) valid
+    ∙ ap (λ (b : Bool). not b && (not hopes || long)) none ∙ ap (λ (b : Bool). not b || long) waits
+
+-- a pair that waits for a better one is picked once a pair of its component has been valid for long
+pub chosen_by : (setup : Setup) (state : State) (p : Pair) (o : Option ℕ) → is_controlling state.role ≡ true → is_succeeded p.state ≡ true → list_any (is_settled_in p) state.pairs ≡ false → list_any (is_hoped_for state p) state.pairs ≡ true
+    → HoldsFrom (some_by (is_long_valid_by setup state p) state.pairs) o → HoldsFrom (is_choice_by setup state p) o
+chosen_by setup state p None controls valid none waits holds = λ now small. chosen_when setup state p now controls valid none waits ∙ holds now small
+chosen_by setup state p (Some start) controls valid none waits holds = λ now small. chosen_when setup state p now controls valid none waits ∙ holds now small
 
 -- ---- A poll
 

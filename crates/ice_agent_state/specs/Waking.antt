@@ -4,7 +4,7 @@ use Rattle.std.specs.List.{list_any}
 use Rattle.ice_machine.specs.declared.pairs.Pair.{Pair}
 use Rattle.ice_machine.specs.Agents.{Setup, State}
 use Rattle.ice_machine.specs.Events.{polls, nothing}
-use Rattle.ice_machine.specs.Checks.{is_choice, urgency}
+use Rattle.ice_machine.specs.Checks.{is_long_valid, is_choice, urgency}
 use Rattle.ice_machine.specs.Steps.{is_unanswered, is_over, is_awaited}
 use Rattle.ice_machine.specs.Bounds.{is_asking}
 use Rattle.ice_agent_state.specs.Agents.{Held, after, output_at}
@@ -62,6 +62,10 @@ timed state now = record state { clock = now }
 
 abbrev pub is_choice_by : Setup → State → Pair → (now : ℕ) → Bool
 is_choice_by setup state p now = is_choice setup (timed state now) p
+
+-- another pair of its component has been valid for the whole patience by a moment
+abbrev pub is_long_valid_by : Setup → State → Pair → Pair → (now : ℕ) → Bool
+is_long_valid_by setup state p q now = is_long_valid setup (timed state now) p q
 
 -- a request on a pair is due by a moment
 abbrev pub is_due_by : Setup → State → Pair → (now : ℕ) → Bool

@@ -5,7 +5,7 @@ ghost use Rattle.std.specs.List.{list_any};
 ghost use Rattle.ice_machine.specs.Agents as state;
 ghost use Rattle.ice_machine.specs.Checks as checks;
 ghost use Rattle.ice_machine.specs.Pairs.{selected, selection_score};
-ghost use Rattle.ice_agent_state.specs.Best.{better_scored, is_hoped_for_in};
+ghost use Rattle.ice_agent_state.specs.Best.{better_scored, is_hoped_for_in, is_settled_of, is_long_valid_of, IsStanding};
 
 use crate::agent::AgentState;
 use ice_machine::{Pair, PairState, Role};
@@ -108,8 +108,8 @@ fn is_hoped_for(role: Role, pair: &Pair, other: &Pair) -> bool
     ensures { result ≡ is_hoped_for_in role pair.now other.now }
 {
     pair.component == other.component
-        && pair_priority(role, pair) < pair_priority(role, other)
         && (is_frozen(other) || is_waiting(other) || is_in_progress(other))
+        && pair_priority(role, pair) < pair_priority(role, other)
 }
 
 /// Whether one of several may.
@@ -125,6 +125,46 @@ fn is_over(clock: u128, since: u128, wait: u64) -> bool
 {
     let wait = wait as u128;
     wait <= clock && since <= clock - wait
+}
+
+fn is_settled(component: u16, pair: &Pair) -> bool
+    ensures { result ≡ is_settled_of component pair.now }
+{
+    component == pair.component && (pair.chosen || pair.nominated)
+}
+
+/// Whether a pair of a component is picked or nominated.
+fn has_settled(component: u16, pairs: &[Pair]) -> bool
+    ensures { result ≡ list_any (is_settled_of component) pairs.now }
+{
+    pairs.iter().any(|q| is_settled(component, q))
+}
+
+fn is_long_valid(clock: u128, patience: u64, component: u16, pair: &Pair) -> bool
+    ensures { result ≡ is_long_valid_of clock patience component pair.now }
+{
+    component == pair.component && is_succeeded(pair) && is_over(clock, pair.succeeded_at, patience)
+}
+
+/// Whether a pair of a component has been valid for so long.
+fn has_long_valid(clock: u128, patience: u64, component: u16, pairs: &[Pair]) -> bool
+    ensures { result ≡ list_any (is_long_valid_of clock patience component) pairs.now }
+{
+    pairs
+        .iter()
+        .any(|q| is_long_valid(clock, patience, component, q))
+}
+
+/// What decides whether a valid pair of a component is picked, besides better pairs: computed once for the
+/// pairs of a component that follow each other.
+#[derive(Clone, Copy)]
+pub(crate) struct Standing {
+    /// The component.
+    pub number: u16,
+    /// Whether one of its pairs is picked or nominated.
+    pub is_settled: bool,
+    /// Whether one of its pairs has been valid for the whole patience.
+    pub is_over: bool,
 }
 
 impl AgentState {
@@ -146,21 +186,44 @@ impl AgentState {
         self.pairs.iter().any(|q| pair.component == q.component && (q.chosen || q.nominated))
     }
 
-    fn is_ripe(&self, pair: &Pair) -> bool
-        ensures { result ≡ checks.is_ripe self.now.setup self.now.state pair.now }
+    fn standing_of(&self, component: u16) -> Standing
+        ensures number { result.number ≡ component }
+        ensures known { IsStanding self.now component result }
     {
-        if waits_for(self.role, pair, &self.pairs) {
-            return is_over(self.clock, pair.succeeded_at, self.settings.patience);
+        Standing {
+            number: component,
+            is_settled: has_settled(component, &self.pairs),
+            is_over: has_long_valid(self.clock, self.settings.patience, component, &self.pairs),
         }
-        true
     }
 
-    fn is_choice(&self, pair: &Pair) -> bool
-        ensures { result ≡ checks.is_choice self.now.setup self.now.state pair.now }
+    /// Takes up another component.
+    fn turn_to(&self, component: u16, standing: &mut Standing)
+        requires { IsStanding self.now standing.old.number standing.old }
+        ensures number { standing.new.number ≡ component }
+        ensures known { IsStanding self.now component standing.new }
+    {
+        if standing.number != component {
+            *standing = self.standing_of(component);
+        }
+    }
+
+    /// Whether a controlling agent picks a pair.
+    fn is_choice(&self, pair: &Pair, standing: &mut Standing) -> bool
+        requires { IsStanding self.now standing.old.number standing.old }
+        ensures value { result ≡ checks.is_choice self.now.setup self.now.state pair.now }
+        ensures known { IsStanding self.now standing.new.number standing.new }
     {
         match self.role {
             Role::Controlled => false,
-            Role::Controlling => is_succeeded(pair) && !self.is_named(pair) && self.is_ripe(pair),
+            Role::Controlling => {
+                if !is_succeeded(pair) {
+                    return false;
+                }
+                self.turn_to(pair.component, standing);
+                !standing.is_settled
+                    && (standing.is_over || !waits_for(self.role, pair, &self.pairs))
+            }
         }
     }
 
@@ -168,16 +231,27 @@ impl AgentState {
     pub(crate) fn is_nominating(&self, pair: &Pair) -> bool
         ensures { result ≡ checks.is_nominating self.now.setup self.now.state pair.now }
     {
+        if !is_succeeded(pair) {
+            return false;
+        }
         match self.role {
             Role::Controlled => false,
-            Role::Controlling => is_succeeded(pair) && (pair.chosen || self.is_choice(pair)),
+            Role::Controlling => {
+                if pair.chosen {
+                    return true;
+                }
+                let mut standing = self.standing_of(pair.component);
+                self.is_choice(pair, &mut standing)
+            }
         }
     }
 
     /// How urgent a request on a pair is.
-    fn urgency(&self, pair: &Pair) -> u128
+    fn urgency(&self, pair: &Pair, standing: &mut Standing) -> u128
+        requires { IsStanding self.now standing.old.number standing.old }
         ensures value { result ≡ checks.urgency self.now.setup self.now.state pair.now }
         ensures bound { result ≤ 5 }
+        ensures known { IsStanding self.now standing.new.number standing.new }
     {
         if is_lost(pair) {
             return 0;
@@ -185,7 +259,7 @@ impl AgentState {
         if pair.triggered {
             return 5;
         }
-        if self.is_choice(pair) {
+        if self.is_choice(pair, standing) {
             return 4;
         }
         if is_succeeded(pair) && pair.due <= self.clock {
@@ -212,10 +286,12 @@ impl AgentState {
         rank.min(18_446_744_073_709_551_615)
     }
 
-    fn score(&self, pair: &Pair) -> u128
-        ensures { result ≡ checks.score self.now.setup self.now.state pair.now }
+    fn score(&self, pair: &Pair, standing: &mut Standing) -> u128
+        requires { IsStanding self.now standing.old.number standing.old }
+        ensures value { result ≡ checks.score self.now.setup self.now.state pair.now }
+        ensures known { IsStanding self.now standing.new.number standing.new }
     {
-        let urgency = self.urgency(pair);
+        let urgency = self.urgency(pair, standing);
         let precedence = if 0 < urgency {
             self.precedence(urgency, pair)
         } else {
@@ -228,12 +304,13 @@ impl AgentState {
     pub(crate) fn most_urgent(&self) -> Option<Pair>
         ensures { result ≡ checks.most_urgent self.now.setup self.now.state }
     {
+        let mut standing = self.standing_of(1);
         let mut best: Option<(Pair, u128)> = None;
         let mut at = self.pairs.len();
         while at > 0 {
             at -= 1;
             let pair = &self.pairs[at];
-            let score = self.score(pair);
+            let score = self.score(pair, &mut standing);
             if score == 0 {
                 continue;
             }

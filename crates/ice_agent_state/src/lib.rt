@@ -5,7 +5,7 @@
 //! - [`AgentState::next_wake`] is the moment to poll at (`specs/Waking.antt`).
 //! - [`AgentState::status`] is the status of a component (`specs/Statuses.antt`).
 //! - [`Changes`] reports each change once (`specs/Reports.antt`).
-//! - [`Session`] restarts (`specs/Restarts.antt`).
+//! - [`is_replaced`] says whether a restart is over (`specs/Restarts.antt`).
 //!
 //! Which event a datagram is, the crate doesn't say.
 #![tactic(auto)]
@@ -36,7 +36,7 @@ pub use agent::AgentState;
 pub use candidates::AddError;
 pub use changes::{Change, Changes};
 pub use laws::{reports_stay, statuses_are_routes};
-pub use restarting::{Generation, Session, earlier, first_route, is_replaced};
+pub use restarting::{earlier, first_route, is_replaced};
 pub use routing::Route;
 pub use settings::Settings;
 pub use status::Status;

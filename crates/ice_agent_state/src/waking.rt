@@ -6,7 +6,7 @@ ghost use Rattle.ice_machine.specs.Checks as checks;
 ghost use Rattle.ice_machine.specs.Roles as roles;
 ghost use Rattle.ice_agent_state.specs.Agents.{setup_of};
 ghost use Rattle.ice_agent_state.specs.Waking as waking;
-ghost use Rattle.ice_agent_state.specs.Waking.{HoldsFrom, IsNextWake, some_by, ends_by, is_due_by, is_choice_by, asks_by};
+ghost use Rattle.ice_agent_state.specs.Waking.{HoldsFrom, IsNextWake, some_by, ends_by, is_due_by, is_choice_by, is_long_valid_by, asks_by};
 
 use crate::agent::AgentState;
 use crate::checking::is_controlling;
@@ -99,13 +99,32 @@ impl AgentState {
         waits_for(self.role, pair, &self.pairs)
     }
 
-    /// When an agent that waits for a better pair takes this one.
-    fn patience_end(&self, pair: &Pair) -> Option<u128>
-        ensures { HoldsFrom (λ (now : ℕ). nat_le (pair.now.succeeded_at + self.now.setup.patience) now)
-            result }
+    /// When another pair of the component has been valid for the whole patience.
+    fn patience_end(&self, pair: &Pair, other: &Pair) -> Option<u128>
+        ensures { HoldsFrom (is_long_valid_by self.now.setup self.now.state pair.now other.now) result }
     {
-        pair.succeeded_at
+        if pair.component != other.component || !is_succeeded(other) {
+            return None;
+        }
+        other
+            .succeeded_at
             .checked_add(self.settings.patience as u128)
+    }
+
+    /// When the first one has been: then an agent no longer waits for better pairs.
+    fn first_patience_end(&self, pair: &Pair) -> Option<u128>
+        ensures { HoldsFrom (some_by (is_long_valid_by self.now.setup self.now.state pair.now)
+            self.now.state.pairs) result }
+    {
+        let mut first = None;
+        let mut at = self.pairs.len();
+        while at > 0 {
+            at -= 1;
+            let other = self.pairs[at];
+            let end = self.patience_end(pair, &other);
+            first = sooner(end, first);
+        }
+        first
     }
 
     /// When a pair becomes the one that a controlling agent picks.
@@ -116,7 +135,7 @@ impl AgentState {
             return None;
         }
         if self.waits_for_better(pair) {
-            return self.patience_end(pair);
+            return self.first_patience_end(pair);
         }
         Some(0)
     }
@@ -199,7 +218,8 @@ impl AgentState {
     /// When a request is no longer waited for is no such moment, since a late response doesn't count whether
     /// the agent was polled before or not.
     ///
-    /// One pass over the pairs, and for a frozen pair, or a valid one of a controlling agent, one over the others.
+    /// One pass over the pairs, and for a frozen pair, or a valid one of a controlling agent, up to three over the
+    /// others.
     ///
     /// ```
     /// use ice_agent_state::{AgentState, Settings};

@@ -16,7 +16,7 @@ use Rattle.ice_machine.proofs.SilenceLemmas.{some_urgency}
 use Rattle.ice_machine.proofs.MeetPairs.{small_by, precedence_small}
 use Rattle.ice_machine.proofs.FairLemmas.{due_longer, three_due}
 
-abbrev NoScore : (Pair → ℕ) → List Pair → Option Pair → Type 0
+abbrev pub NoScore : (Pair → ℕ) → List Pair → Option Pair → Type 0
 NoScore score ps None = AllByRecursion (λ p. score p ≡ 0) ps
 NoScore score ps (Some p) = AllByRecursion (λ q. score q ≤ score p) ps
 
@@ -25,7 +25,7 @@ better_none f p ps None none = cond_both (nat_lt 0 (f p)) _ _ (NoScore f (p ∷ 
 better_none f p ps (Some q) none = cond_both (nat_lt (f p) (f q)) _ _ (NoScore f (p ∷ ps)) (λ is. let lt = ltb-true (f p) (f q) is in (omega (arith, lt), none))
     (λ isnt. let le = ltb-false (f p) (f q) isnt in (omega arith, each_map (λ z. f z ≤ f q) (λ z. f z ≤ f p) (λ z is. omega (arith, is, le)) ps none))
 
-best_none : (f : Pair → ℕ) (ps : List Pair) → NoScore f ps (best f ps)
+pub best_none : (f : Pair → ℕ) (ps : List Pair) → NoScore f ps (best f ps)
 best_none f [] = tt
 best_none f (p ∷ ps) = better_none f p ps (best f ps) (best_none f ps)
 
@@ -43,7 +43,7 @@ by_priority state u p isnt = elim (cases_Bool (u == 3)) as (λ x. precedence sta
   | inr other ↦ ap (λ (n : ℕ). min (2 ^ 64 - 1) n) (cond-false (u == 3) (state.clock - p.due) (pair_priority state.role p) other)
 ]
 
-precedes_by : (setup : Setup) (state : State) (p q : Pair) → 0 < urgency setup state p → score setup state q ≤ score setup state p → Precedes setup state p q
+pub precedes_by : (setup : Setup) (state : State) (p q : Pair) → 0 < urgency setup state p → score setup state q ≤ score setup state p → Precedes setup state p q
 precedes_by setup state p q some le = record {
   urgent = urgent_by (urgency setup state p) (urgency setup state q) (if nat_lt 0 (urgency setup state p) then precedence state (urgency setup state p) p else 0) (if nat_lt 0 (urgency setup state q) then precedence state (urgency setup state q) q else 0)
       (small_by (nat_lt 0 (urgency setup state p)) (precedence state (urgency setup state p) p) (precedence_small state (urgency setup state p) p)) le;

@@ -28,6 +28,7 @@ mod StartingLemmas
 mod ExampleLemmas
 mod FollowedLemmas
 mod NamingLemmas
+mod BestLemmas
 mod FairLemmas
 mod BusyLemmas
 mod KeptLemmas

@@ -17,7 +17,7 @@ use Rattle.ice_machine.proofs.MeetSteps.{at_agent, weaker_agent}
 use Rattle.ice_machine.proofs.MeetStages.{IsMetIn, met_lasts}
 use Rattle.ice_machine.proofs.MeetTries.{less_when, IsHoping}
 use Rattle.ice_machine.proofs.MeetLosses.{new_hoping, OneNew, OtherNew, lost_round, one_lost, other_lost}
-use Rattle.ice_machine.proofs.MeetRounds.{full_round, SomeTries, AreMet, AreTold, IsNear, IsClose, met_round, told_round, patient_round, close_round, near_round, some_tries_round}
+use Rattle.ice_machine.proofs.MeetRounds.{full_round, SomeTries, AreMet, AreTold, IsNear, IsClose, told_round, patient_round, close_round, near_round, some_tries_round}
 
 -- ---- Data
 

@@ -1,12 +1,12 @@
 -- What becomes of the pair of the way, and of the useless ones; and how urgent each is.
-use Rattle.std.proofs.Common.{◌≡◌, ℕ, ◌+◌, ◌-◌, ◌*◌, ◌^◌, ◌%◌, ◌<◌, ◌≤◌, Bool, true, false, not, ◌||◌, ◌&&◌, Option, None, Some, refl, sym, ap, subst, ◌∙◌, arith}
-use Rattle.std.specs.Prelude.{nat_lt, nat_le, if◌then◌else◌, min}
-use Rattle.std.proofs.lemmas.Bool.{cond_both, cond-true, cond-false, and_parts, and_from, and_left, and_right, or_left, or_right, lt-leb}
+use Rattle.std.proofs.Common.{◌≡◌, ℕ, ◌+◌, ◌-◌, ◌*◌, ◌^◌, ◌%◌, ◌<◌, ◌≤◌, Bool, true, false, not, ◌||◌, ◌&&◌, Option, None, Some, refl, sym, ap, subst, ◌∙◌, arith, eq-eqb}
+use Rattle.std.specs.Prelude.{◌==◌, nat_lt, nat_le, if◌then◌else◌, min}
+use Rattle.std.proofs.lemmas.Bool.{cond_both, cond-true, cond-false, and_parts, and_from, and_left, and_right, or_left, or_right, lt-leb, le-leb}
 use Rattle.stun_endpoints.specs.declared.endpoints.Endpoint.{Endpoint}
 use Rattle.ice_machine.specs.Roles.{Role, is_controlling}
 use Rattle.ice_machine.specs.Agents.{seconds, PairState, Frozen, Waiting, InProgress, Succeeded, Failed, Lost, Pair, Request, Setup, State, is_at, is_succeeded, is_in_progress, is_frozen, is_lost}
 use Rattle.ice_machine.specs.Events.{Check}
-use Rattle.ice_machine.specs.Checks.{is_kin, is_fresh, is_choice, is_nominating, urgency, score, rto_of, consent_wait, asked, precedence}
+use Rattle.ice_machine.specs.Checks.{is_kin, is_fresh, is_long_valid, is_choice, is_nominating, urgency, score, rto_of, consent_wait, asked, precedence}
 use Rattle.ice_machine.specs.Steps.{is_unanswered, is_over, settled, unnominated, triggers, nominated_by, heard, succeeds, thaws, retried}
 use Rattle.ice_machine.specs.Networks.{Place}
 use Rattle.ice_machine.specs.Meetings.{End, IsUseless, IsUntold, IsFit}
@@ -324,3 +324,8 @@ tried_some setup s p one two = cond_both (is_lost p.state) _ _ (λ n. 1 ≤ n) (
     (λ _. cond_both (is_fresh s p) _ _ (λ n. 1 ≤ n) (λ _. omega arith)
     (λ not_fresh. cond_both (is_in_progress p.state && nat_le p.due s.clock) _ _ (λ n. 1 ≤ n) (λ _. omega arith)
     (λ not_due. neither _ (is_fresh s p || (is_in_progress p.state && nat_le p.due s.clock)) two (or_both (is_fresh s p) (is_in_progress p.state && nat_le p.due s.clock) not_fresh not_due)))))))
+
+-- a valid pair is one of its component for long, once its patience is over
+pub long_valid : (setup : Setup) (s : State) (p : Pair) → is_succeeded p.state ≡ true → p.succeeded_at + setup.patience ≤ s.clock → is_long_valid setup s p p ≡ true
+long_valid setup s p valid over = and_from (p.component == p.component) (is_succeeded p.state && nat_le (p.succeeded_at + setup.patience) s.clock) (eq-eqb p.component p.component refl)
+    (and_from (is_succeeded p.state) (nat_le (p.succeeded_at + setup.patience) s.clock) valid (le-leb (p.succeeded_at + setup.patience) s.clock over))

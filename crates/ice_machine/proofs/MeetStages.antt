@@ -2,19 +2,19 @@
 use Rattle.std.proofs.Common.{◌≡◌, ℕ, ◌+◌, ◌<◌, ◌≤◌, inl, inr, ◌⊎◌, Bool, true, false, not, ◌||◌, ◌&&◌, Option, Some, refl, sym, ap, subst, ◌∙◌, arith}
 use Rattle.std.specs.List.{list_any}
 use Rattle.std.specs.Prelude.{◌==◌, nat_le}
-use Rattle.std.proofs.lemmas.Bool.{and_from, and_left, and_right, leb-false, le-leb, or_left, or_right, cases_Bool, and_parts, cases_lt}
+use Rattle.std.proofs.lemmas.Bool.{and_from, and_left, and_right, leb-false, or_left, or_right, cases_Bool, and_parts, cases_lt}
 use Rattle.stun_endpoints.specs.declared.endpoints.Endpoint.{Endpoint}
 use Rattle.ice_machine.specs.Roles.{Role, Controlling, Controlled, other_role, is_controlling}
 use Rattle.ice_machine.specs.Agents.{seconds, Pair, Setup, State, pace, is_at, is_succeeded}
 use Rattle.ice_machine.specs.Events.{Check}
-use Rattle.ice_machine.specs.Checks.{request_on, asked, is_choice, is_nominating, is_ripe, is_settled_in, is_hoped_for}
+use Rattle.ice_machine.specs.Checks.{request_on, asked, is_choice, is_nominating, is_ripe, is_settled_in, is_hoped_for, is_long_valid}
 use Rattle.ice_machine.specs.Steps.{settled, heard, thaws, asks_on}
 use Rattle.ice_machine.specs.Exchanges.{delivered}
 use Rattle.ice_machine.specs.Networks.{Place, Agents, gets_to, turn}
 use Rattle.ice_machine.specs.Meetings.{End, IsUseless, IsUntold, IsFit, IsAgent}
 use Rattle.ice_machine.proofs.PlacesLemmas.{neither}
-use Rattle.ice_machine.proofs.MeetLists.{one_none}
-use Rattle.ice_machine.proofs.MeetPairs.{IsTriggered, IsTold, triggered_settled, untold_settled, untold_asked, untold_plain, untold_succeeds, told_settled, told_thawed, told_heard, told_renewed, renewed, renewed_marked, renewed_unmarked, renewed_nominated, valid_unlost, triggered_high, choice_high}
+use Rattle.ice_machine.proofs.MeetLists.{one_none, one_is_there}
+use Rattle.ice_machine.proofs.MeetPairs.{long_valid, IsTriggered, IsTold, triggered_settled, untold_settled, untold_asked, untold_plain, untold_succeeds, told_settled, told_thawed, told_heard, told_renewed, renewed, renewed_marked, renewed_unmarked, renewed_nominated, valid_unlost, triggered_high, choice_high}
 use Rattle.ice_machine.proofs.MeetSteps.{moved, moved_agent, weaker_agent, turn_from, turn_is}
 use Rattle.ice_machine.proofs.MeetTurns.{Result, agent_exact, served, turned, opposite_exchange}
 
@@ -98,7 +98,9 @@ choice_is e net since until now setup s y clock a v controls ripe =
     and_from (is_controlling s.role) (is_succeeded y.state && (not (list_any (is_settled_in y) s.pairs) && is_ripe setup s y)) controls
     (and_from (is_succeeded y.state) (not (list_any (is_settled_in y) s.pairs) && is_ripe setup s y) v.0.valid
     (and_from (not (list_any (is_settled_in y) s.pairs)) (is_ripe setup s y) (ap not none)
-    (or_right (not (list_any (is_hoped_for s y) s.pairs)) (nat_le (y.succeeded_at + setup.patience) s.clock) (le-leb (y.succeeded_at + setup.patience) s.clock (let l = v.0.since_by in omega (arith, l, ripe, clock))))))
+    (or_right (not (list_any (is_hoped_for s y) s.pairs)) (list_any (is_long_valid setup s y) s.pairs)
+    (one_is_there (λ z. z ≡ y) (IsUseless e net) (is_long_valid setup s y) (λ z same. subst (λ (q : Pair). is_long_valid setup s y q ≡ true) (sym same)
+    (long_valid setup s y v.0.valid (let l = v.0.since_by in omega (arith, l, ripe, clock)))) s.pairs a.pairs))))
   where
     neither_marked : (x : Pair) → x.chosen ≡ false → x.nominated ≡ false → (x.chosen || x.nominated) ≡ false
     neither_marked x one other = ap (λ (b : Bool). b || x.nominated) one ∙ other

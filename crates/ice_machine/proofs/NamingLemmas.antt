@@ -6,14 +6,14 @@ use Rattle.std.proofs.Common.{◌≡◌, ℕ, ◌+◌, ◌*◌, ◌^◌, ◌<◌
 use Rattle.std.specs.List.{list_any, AllByRecursion}
 use Rattle.std.specs.Option.{option_map_or}
 use Rattle.std.specs.Prelude.{◌==◌, nat_le, nat_lt, if◌then◌else◌}
-use Rattle.std.proofs.lemmas.Bool.{cond_both, cond-true, cond-false, and_from, and_parts, and_right, cases_Bool, leb-false, ltb-true, or_right, or_cases, or_parts, and_left, le-leb, or_left, cases_lt}
+use Rattle.std.proofs.lemmas.Bool.{cond_both, cond-true, cond-false, and_from, and_parts, and_right, cases_Bool, leb-false, ltb-true, or_right, or_cases, or_parts, and_left, or_left, cases_lt}
 use Rattle.stun_endpoints.specs.declared.endpoints.Endpoint.{Endpoint}
 use Rattle.stun_endpoints.specs.Endpoints.{is_endpoint}
 use Rattle.ice_machine.specs.Roles.{Role, RoleDecision, keep, other_role, is_controlling, role_decision, Controlling}
 use Rattle.ice_machine.specs.Agents.{seconds, Waiting, Failed, Base, Pair, Request, Setup, State, is_at, is_succeeded, is_in_progress, is_frozen, is_lost, Remote}
 use Rattle.ice_machine.specs.Events.{Check, Answer, Accepted, Refused, Event, gathers, learns, meets, ends, checks, responds, strays, arrives, sends, polls, asks, nothing}
 use Rattle.ice_machine.specs.Pairs.{pair_of, fits, with_pair, with_pairs}
-use Rattle.ice_machine.specs.Checks.{is_kin, is_choice, is_nominating, score, most_urgent, consent_wait, rto_of, asked, request_on, is_settled_in, is_hoped_for, is_ripe}
+use Rattle.ice_machine.specs.Checks.{is_kin, is_choice, is_nominating, score, most_urgent, consent_wait, rto_of, asked, request_on, is_settled_in, is_hoped_for, is_long_valid, is_ripe}
 use Rattle.ice_machine.specs.Steps.{step, Step, does_nothing, is_unanswered, is_over, settled, at, changed_first, has_room, is_remote, discovered, is_base, heard, triggers, decides, checked, is_request, is_symmetric, without_request, fails, succeeds, thaws, answered, responded, changed, asks_on, is_open, polled, happens, nominated_by}
 use Rattle.ice_machine.specs.Runs.{Timed}
 use Rattle.ice_machine.specs.Meetings.{End, disturbed, IsFit, OneAmong}
@@ -21,7 +21,7 @@ use Rattle.ice_machine.specs.Lasting.{Watch, is_way, is_minor, is_free, asked_by
 use Rattle.ice_machine.proofs.AddressesLemmas.{endpoint_same}
 use Rattle.ice_machine.proofs.PlacesLemmas.{neither, at_left, asked_left, at_distinct, step_goes}
 use Rattle.ice_machine.proofs.MeetLists.{one_map, one_weaken, one_changed, one_elsewhere, one_touched, one_exact, IsTop, top_best, one_none, one_is_there}
-use Rattle.ice_machine.proofs.MeetPairs.{live_settled, succeeded_valid, valid_thawed, valid_done, valid_unlost, asked_is, choice_high, triggers_valid}
+use Rattle.ice_machine.proofs.MeetPairs.{long_valid, live_settled, succeeded_valid, valid_thawed, valid_done, valid_unlost, asked_is, choice_high, triggers_valid}
 use Rattle.ice_machine.proofs.MeetSteps.{moved, at_is, same_place, elsewhere_from, is_false}
 use Rattle.ice_machine.proofs.LastingLemmas.{high_score, Free, early_by, free_by, lasts_same, way_by}
 use Rattle.ice_machine.proofs.FollowedLemmas.{valid_alive, later_valid, asked_valid, unasked_same, nothing_same, due_high}
@@ -90,7 +90,9 @@ is_ripe_choice setup e gap since limit w s y role v one ripe =
     and_from (is_controlling s.role) (is_succeeded y.state && (not (list_any (is_settled_in y) s.pairs) && is_ripe setup s y)) (ap is_controlling role)
     (and_from (is_succeeded y.state) (not (list_any (is_settled_in y) s.pairs) && is_ripe setup s y) v.valid.valid
     (and_from (not (list_any (is_settled_in y) s.pairs)) (is_ripe setup s y) (ap not (none_settled e gap since limit s.clock w y s.pairs v one))
-    (or_right (not (list_any (is_hoped_for s y) s.pairs)) (nat_le (y.succeeded_at + setup.patience) s.clock) (le-leb (y.succeeded_at + setup.patience) s.clock (let l = v.since_by in omega (arith, l, ripe))))))
+    (or_right (not (list_any (is_hoped_for s y) s.pairs)) (list_any (is_long_valid setup s y) s.pairs)
+    (one_is_there (λ z. z ≡ y) (IsUnnamedOther e) (is_long_valid setup s y) (λ z same. subst (λ (q : Pair). is_long_valid setup s y q ≡ true) (sym same)
+    (long_valid setup s y v.valid.valid (let l = v.since_by in omega (arith, l, ripe)))) s.pairs one))))
 
 is_named : (setup : Setup) (s : State) (y : Pair) → is_succeeded y.state ≡ true → is_choice setup s y ≡ true → is_nominating setup s y ≡ true
 is_named setup s y valid is =

@@ -20,8 +20,9 @@ is_held ps p = list_any (λ q. is_kin p q && is_under_way q.state) ps
 abbrev pub is_fresh : State → Pair → Bool
 is_fresh state p = is_waiting p.state || (is_frozen p.state && not (is_held state.pairs p))
 
--- a controlling agent picks one pair of a component: one that has succeeded, once no pair of a greater
--- priority may still succeed, or its patience is over; and none if one is picked or nominated (8.1.1)
+-- a controlling agent picks one pair of a component, and none if one is picked or nominated: of the pairs
+-- that have succeeded the one of the greatest priority, once no pair of a greater one may still succeed, or
+-- `patience` after the first of them has succeeded (8.1.1)
 abbrev pub is_settled_in : Pair → Pair → Bool
 is_settled_in p q = (p.component == q.component) && (q.chosen || q.nominated)
 
@@ -30,10 +31,15 @@ is_hoped_for state p q =
     (p.component == q.component) && (nat_lt (pair_priority state.role p) (pair_priority state.role q)
     && (is_frozen q.state || is_under_way q.state))
 
+abbrev pub is_long_valid : Setup → State → Pair → Pair → Bool
+is_long_valid setup state p q =
+    (p.component == q.component) && (is_succeeded q.state
+    && nat_le (q.succeeded_at + setup.patience) state.clock)
+
 abbrev pub is_ripe : Setup → State → Pair → Bool
 is_ripe setup state p =
     not (list_any (is_hoped_for state p) state.pairs)
-    || nat_le (p.succeeded_at + setup.patience) state.clock
+    || list_any (is_long_valid setup state p) state.pairs
 
 abbrev pub is_choice : Setup → State → Pair → Bool
 is_choice setup state p =

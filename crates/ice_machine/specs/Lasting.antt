@@ -1,11 +1,12 @@
 -- How a nominated pair keeps the peer's consent (RFC 7675, section 5.1), for one agent, whatever else
 -- arrives, over a network that delays and loses datagrams.
 use Rattle.std.specs.Prelude.{◌≡◌, ℕ, ◌+◌, ◌*◌, ◌<◌, ◌≤◌, ◌^◌, ◌⊎◌, ◌&&◌, ◌||◌, ◌==◌, Bool, true, false, nat_lt, nat_le, List, [], ◌∷◌, find, Option, None, Some, if◌then◌else◌}
+use Rattle.std.specs.List.{AllByRecursion}
 use Rattle.std.specs.Option.{option_map_or}
 use Rattle.stun_endpoints.specs.declared.endpoints.Endpoint.{Endpoint}
 use Rattle.stun_endpoints.specs.Endpoints.{is_endpoint}
 use Rattle.ice_machine.specs.Roles.{Controlling, other_role}
-use Rattle.ice_machine.specs.Agents.{seconds, Pair, Request, Setup, State, is_at, is_succeeded, is_lost}
+use Rattle.ice_machine.specs.Agents.{seconds, Pair, Request, Setup, State, is_at, is_succeeded, is_lost, pair_priority}
 use Rattle.ice_machine.specs.Events.{Answer, Accepted, Refused, Event, gathers, learns, meets, ends, checks, responds, strays, arrives, sends, polls, Output, asks, answers, data_to, data_from, nothing}
 use Rattle.ice_machine.specs.Checks.{is_choice, is_nominating, request_on, score, most_urgent}
 use Rattle.ice_machine.specs.Steps.{at, is_request, is_symmetric, is_open, polled, step}
@@ -176,6 +177,11 @@ HasNamed setup e s (t ∷ earlier) =
     let before = disturbed setup s earlier in
     IsNaming setup e t.fresh (at setup t.now before) (step setup before t.now t.fresh t.event).output
     ⊎ HasNamed setup e s earlier
+
+-- no valid pair of the component has a greater priority than a pair (all are less than 2^64)
+abbrev pub IsBestValid : State → Pair → Type 0
+IsBestValid s p = AllByRecursion (λ q. p.component ≡ q.component → is_succeeded q.state ≡ true
+    → pair_priority s.role q < 2 ^ 64 → pair_priority s.role q ≤ pair_priority s.role p) s.pairs
 
 abbrev pub IsUnmarked : Pair → Type 0
 IsUnmarked p = (p.chosen ≡ false) × (p.nominated ≡ false)

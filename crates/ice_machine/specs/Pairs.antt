@@ -1,10 +1,9 @@
 -- Candidate pairs (RFC 8445, sections 6.1.2 and 8.1.1): how they are formed, and which one is selected.
 use Rattle.std.specs.Prelude.{ℕ, ◌+◌, ◌/◌, ◌^◌, Bool, true, false, not, ◌&&◌, ◌||◌, List, [], ◌∷◌, length, Option, None, Some, nat_lt, ◌==◌, if◌then◌else◌}
-use Rattle.std.specs.List.{list_any, list_all}
-use Rattle.std.specs.Option.{option_map_or}
+use Rattle.std.specs.List.{list_any}
 use Rattle.stun_endpoints.specs.declared.endpoints.Ip.{Ip}
 use Rattle.ice_machine.specs.Roles.{Role}
-use Rattle.ice_machine.specs.Agents.{Base, Remote, PairState, Frozen, Waiting, InProgress, Succeeded, Failed, Lost, Pair, State, is_at, is_succeeded, pair_priority}
+use Rattle.ice_machine.specs.Agents.{Base, Remote, Frozen, Pair, State, is_at, is_succeeded, pair_priority}
 
 abbrev pub pair_of : Base → Remote → Pair
 pair_of b r = record {

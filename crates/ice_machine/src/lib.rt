@@ -51,9 +51,11 @@
 //! - Pairs of equal priority go by their place in the list, and not by component ID (6.1.4.2).
 //! - A pair that the peer has nominated and that fails is a failed pair. The RFC sets the checklist to Failed
 //!   (7.3.1.5).
-//! - A controlling agent picks the valid pair of the greatest priority, as soon as none of a greater priority
-//!   may still succeed, or `patience` after it succeeded. Once a pair is nominated, no other pair of its
-//!   component is, also after its consent has expired (8.1.1). A picked pair that is lost before that gives way.
+//! - A controlling agent picks the valid pair of the greatest priority of a component, as soon as none of a
+//!   greater priority may still succeed, or `patience` after the first valid one succeeded. If error 487 has
+//!   triggered a check on a valid pair by then, that pair is picked, even if another is better. Once a pair is
+//!   nominated, no other pair of its component is, also after its consent has expired (8.1.1). A picked pair
+//!   that is lost before that gives way.
 //! - Once a pair is nominated, checks on the other pairs of its component go on. The RFC removes these (8.1.2).
 //! - The request that follows a nomination comes after RTO. All requests on a nominated pair have USE-CANDIDATE.
 //! - Every valid pair is kept alive by consent checks. Those of one component that isn't selected aren't freed

@@ -14,14 +14,14 @@ use std::net::{IpAddr, Ipv4Addr, Ipv6Addr, SocketAddr};
 fn ipv4_number(ip: Ipv4Addr) -> u128
     ensures { result ≡ number (ipv4_octets ip) }
 {
-    BigEndian::read_uint128(&ip.octets(), 4)
+    BigEndian::read_u32(&ip.octets()) as u128
 }
 
 /// The bytes of an IPv6 address as a number.
 fn ipv6_number(ip: Ipv6Addr) -> u128
     ensures { result ≡ number (ipv6_octets ip) }
 {
-    BigEndian::read_uint128(&ip.octets(), 16)
+    u128::from_be_bytes(ip.octets())
 }
 
 /// Converts an IP address.

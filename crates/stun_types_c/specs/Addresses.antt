@@ -6,6 +6,8 @@ use Rattle.std.specs.Net.Socket.{socket_ip, socket_port}
 use Rattle.std.specs.declared.net.ip_addr.IpAddr.{IpAddr}
 use Rattle.std.specs.declared.net.ip_addr.IpAddr.TheVariants.{V4, V6}
 use Rattle.std.specs.declared.net.socket_addr.SocketAddr.{SocketAddr}
+use Rattle.stun_endpoints.specs.declared.endpoints.Endpoint.{Endpoint}
+use Rattle.stun_endpoints.specs.Conversions.{endpoint_of}
 use Rattle.stun_grammar.specs.Headers.{header_fault, id_field}
 use Rattle.stun_types.specs.declared.attribute.known.ValueForm.{ValueForm}
 use Rattle.stun_types.specs.declared.attribute.known.ValueForm.TheVariants.{Address as PlainAddress, XorAddress}
@@ -55,6 +57,10 @@ Names address named =
 -- the same as a value
 abbrev pub socket_named : Address → Option SocketAddr
 socket_named address = option_map (λ ip. plain_socket ip address.port) (ip_named address)
+
+-- the endpoint that C's form names
+abbrev pub endpoint_named : Address → Option Endpoint
+endpoint_named address = option_map endpoint_of (socket_named address)
 
 -- what reading the address in a value answers
 abbrev pub ReadsFrom : (SocketAddr → Address → Type 0) → List ℕ → CResult → Address → Address

@@ -4,7 +4,6 @@ use Rattle.std.specs.Option.{option_map, option_or}
 use Rattle.stun_base.specs.declared.transport.TransportType.{TransportType}
 use Rattle.stun_base.specs.declared.transport.TransportType.TheVariants.{Udp, Tcp}
 use Rattle.stun_endpoints.specs.declared.endpoints.Endpoint.{Endpoint}
-use Rattle.stun_endpoints.specs.Conversions.{endpoint_of}
 use Rattle.stun_values.specs.declared.algorithm.PasswordAlgorithmValue.{PasswordAlgorithmValue}
 use Rattle.stun_authentication.specs.Requests.{User}
 use Rattle.turn_client_machine.specs.Runs.{begun}
@@ -13,13 +12,12 @@ use Rattle.turn_client_state.specs.declared.settings.Settings.{Settings}
 use Rattle.turn_client_state.specs.Reports.{nothing_of}
 use Rattle.turn_client_state.specs.States.{setup_of}
 use Rattle.turn_client.specs.Clients.{Client, algorithms_in, family_in, transport_of}
-use Rattle.stun_types_c.specs.declared.address.Address.{Address}
 use Rattle.stun_types_c.specs.declared.allocation_core.AllocationCore.{AllocationCore}
 use Rattle.stun_types_c.specs.declared.allocation_settings.CAllocationSettings.{CAllocationSettings}
 use Rattle.stun_types_c.specs.declared.allocation_settings.Checked.{Checked}
 use Rattle.stun_types_c.specs.declared.allocation_settings.Counts.{Counts}
 use Rattle.stun_types_c.specs.declared.call_result.CResult.{CResult}
-use Rattle.stun_types_c.specs.Addresses.{socket_named}
+pub use Rattle.stun_types_c.specs.Addresses.{endpoint_named}
 use Rattle.stun_types_c.specs.CResults.{plain, counted, Refuses}
 use Rattle.stun_types_c.specs.Codes.{OK, TOO_LARGE, OUT_OF_MEMORY}
 use Rattle.stun_types_c.specs.Credentials.{texts_refusal}
@@ -30,10 +28,6 @@ use Rattle.stun_types_c.specs.Transactions.{transport_numbered}
 use Rattle.stun_types_c.specs.TurnMaking.{argument_answer, is_set, software_named}
 
 -- ---- What each number means
-
--- the endpoint that C's form names
-abbrev pub endpoint_named : Address → Option Endpoint
-endpoint_named address = option_map endpoint_of (socket_named address)
 
 -- the family of the relayed address, and whether Allocate requests name it although it is IPv4
 abbrev pub family_named : ℕ → Option (ℕ × Bool)
@@ -49,9 +43,10 @@ number_named greatest usual number =
 
 abbrev pub counts_named : CAllocationSettings → Option Counts
 counts_named named =
-    option_and_then (λ peers. option_and_then (λ sends. option_map (λ retries.
-    record { peers = peers; sends = sends; retries = retries }) (number_named 255 3 named.retries))
-    (number_named 255 7 named.sends)) (number_named 4096 32 named.peers)
+    option_and_then (λ peers. option_and_then (λ most_named. option_and_then (λ sends. option_map (λ retries.
+    record { peers = peers; named = most_named; sends = sends; retries = retries })
+    (number_named 255 3 named.retries)) (number_named 255 7 named.sends)) (number_named 16 8 named.named))
+    (number_named 4096 32 named.peers)
 
 -- a wait of milliseconds, in nanoseconds; 0 is the usual one
 abbrev pub wait_named : (millis usual : ℕ) → ℕ
@@ -75,6 +70,7 @@ settings_by named Udp server family counts = record {
   family = family;
   is_reliable = false;
   most_peers = counts.peers;
+  most_named = counts.named;
   most_sends = counts.sends;
   most_retries = counts.retries;
   rto = wait_named named.rto 500_000_000;
@@ -85,6 +81,7 @@ settings_by named Tcp server family counts = record {
   family = family;
   is_reliable = true;
   most_peers = counts.peers;
+  most_named = counts.named;
   most_sends = 1;
   most_retries = counts.retries;
   rto = 500_000_000;

@@ -1,42 +1,36 @@
 -- Where datagrams of TURN come from, and the sockets that C has ready.
 use Rattle.std.specs.Prelude.{◌≡◌, ℕ, replicate, Option, None, Some, option_and_then, ◌==◌, if◌then◌else◌}
 use Rattle.std.specs.Option.{option_map}
-use Rattle.std.specs.declared.net.socket_addr.SocketAddr.{SocketAddr}
 use Rattle.stun_endpoints.specs.declared.endpoints.Endpoint.{Endpoint}
 use Rattle.stun_endpoints.specs.declared.endpoints.FiveTuple.{FiveTuple}
-use Rattle.stun_endpoints.specs.Conversions.{endpoint_of, socket_of}
+use Rattle.stun_endpoints.specs.Conversions.{socket_of}
 use Rattle.turn_server.specs.declared.sockets.Ready.{Ready}
 use Rattle.turn_server.specs.declared.sockets.Sockets.{Sockets}
 use Rattle.stun_types_c.specs.declared.address.Address.{Address}
 use Rattle.stun_types_c.specs.declared.turn_addresses.CFiveTuple.{CFiveTuple}
 use Rattle.stun_types_c.specs.declared.turn_addresses.CTurnReady.{CTurnReady}
-use Rattle.stun_types_c.specs.Addresses.{socket_named, Holds}
+use Rattle.stun_types_c.specs.Addresses.{endpoint_named, Holds}
 
 -- the protocol between a client and the server: UDP, or TCP for a stream
 abbrev pub transport_named : ℕ → Option ℕ
 transport_named stream =
     if stream == 0 then Some 17 else (if stream == 1 then Some 6 else None)
 
-abbrev pub tuple_with : (client server : SocketAddr) → (transport : ℕ) → FiveTuple
-tuple_with client server transport = record {
-  client = endpoint_of client;
-  server = endpoint_of server;
-  transport = transport;
-}
+abbrev pub tuple_with : (client server : Endpoint) → (transport : ℕ) → FiveTuple
+tuple_with client server transport = record { client = client; server = server; transport = transport }
 
 -- the 5-tuple, if C's form names one
 abbrev pub tuple_named : CFiveTuple → Option FiveTuple
 tuple_named named =
     option_and_then (λ client. option_and_then (λ server. option_map (tuple_with client server)
-    (transport_named named.stream)) (socket_named named.server)) (socket_named named.client)
+    (transport_named named.stream)) (endpoint_named named.server)) (endpoint_named named.client)
 
 -- the address of a socket of a family, 4 or 6: family 0 says that there is none, and another one that C
 -- made a mistake
 abbrev pub ready_named : (family : ℕ) → Address → Option (Option Endpoint)
 ready_named family address =
     if address.family == 0 then Some None else (
-    if address.family == family then option_map (λ a. Some (endpoint_of a)) (socket_named address)
-    else None)
+    if address.family == family then option_map Some (endpoint_named address) else None)
 
 -- the sockets of a family: none are a pair
 abbrev pub family_named : (family : ℕ) → (any even : Address) → Option Ready

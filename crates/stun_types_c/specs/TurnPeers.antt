@@ -2,7 +2,6 @@
 use Rattle.std.specs.Prelude.{◌≡◌, ℕ, List, length, Option, None, Some, MatchOption, IsSomeAnd, nat_lt, if◌then◌else◌}
 use Rattle.stun_grammar.specs.Numbers.{number}
 use Rattle.stun_endpoints.specs.declared.endpoints.Endpoint.{Endpoint}
-use Rattle.stun_endpoints.specs.Conversions.{endpoint_of}
 use Rattle.turn_server.specs.Delivering.{Receives as ReceivesBy}
 use Rattle.turn_server.specs.declared.action.Delivery.{Delivery}
 use Rattle.stun_types_c.specs.declared.address.Address.{Address}
@@ -10,7 +9,7 @@ use Rattle.stun_types_c.specs.declared.call_result.CResult.{CResult}
 use Rattle.stun_types_c.specs.declared.reading.Id.{Id}
 use Rattle.stun_types_c.specs.declared.turn_core.TurnCore.{TurnCore}
 use Rattle.stun_types_c.specs.declared.turn_peer.CDelivery.{CDelivery}
-use Rattle.stun_types_c.specs.Addresses.{socket_named}
+use Rattle.stun_types_c.specs.Addresses.{endpoint_named}
 use Rattle.stun_types_c.specs.Codes.{OK, TOO_SMALL, BAD_ARGUMENT}
 use Rattle.stun_types_c.specs.CResults.{plain, counted, Refuses}
 use Rattle.stun_types_c.specs.TurnAddresses.{nowhere, HoldsTuple}
@@ -77,8 +76,8 @@ ReceivesIn core now relay n id peer result old new =
 
 abbrev pub TakesPeer : (now : ℕ) → Address → (relay n : ℕ) → Id → CResult → PeerLeft → PeerLeft → Type 0
 TakesPeer now address relay n id result old new =
-    MatchOption (socket_named address)
+    MatchOption (endpoint_named address)
     (Refuses (plain BAD_ARGUMENT) result old new)
     (λ peer. MatchOption old.core
     (Refuses (plain BAD_ARGUMENT) result old new)
-    (λ core. ReceivesIn core now relay n (number id.bytes) (endpoint_of peer) result old new))
+    (λ core. ReceivesIn core now relay n (number id.bytes) peer result old new))

@@ -1,13 +1,18 @@
 //! Addresses in attributes.
 
 ghost use Rattle.std.specs.Prelude.{◌≡◌};
-ghost use Rattle.stun_types_c.specs.Addresses.{ipv4_named, ipv6_named, Holds, HoldsXored, Names, socket_named, is_xored_type, is_plain_type, ReadsFrom, ReadsAddress, ReadsXorAddress};
+ghost use Rattle.std.specs.declared.net.ip_addr.IpAddr.TheVariants.{V4};
+ghost use Rattle.stun_endpoints.specs.Conversions.{endpoint_of, socket_of};
+ghost use Rattle.stun_values.specs.Addresses.{plain_socket};
+ghost use Rattle.stun_types_c.specs.Addresses.{ipv4_named, ipv6_named, Holds, HoldsXored, Names, socket_named, endpoint_named, is_xored_type, is_plain_type, ReadsFrom, ReadsAddress, ReadsXorAddress};
 
 use crate::attribute::ShownAttribute;
 use crate::call_result::{CResult, parse_result, plain};
 use crate::codes;
 use crate::values::value_in;
+use byteorder::{BigEndian, ByteOrder};
 use std::net::{IpAddr, Ipv4Addr, Ipv6Addr, SocketAddr};
+use stun_endpoints::{Endpoint, Ip};
 use stun_plain_text::value_form;
 use stun_types::attribute::ValueForm;
 use stun_types::message::{MessageHeader, TransactionId};
@@ -73,6 +78,56 @@ pub(crate) fn socket_of(address: &Address) -> Option<SocketAddr>
         6 => Some(SocketAddr::new(ipv6_of(&address.octets), address.port)),
         _ => None,
     }
+}
+
+/// The endpoint that C's form names if its family is 6.
+#[inline(never)]
+fn ipv6_endpoint(address: &Address) -> Endpoint
+    ensures { result ≡ endpoint_of (plain_socket (ipv6_named address.now.octets) address.now.port) }
+{
+    Endpoint::from(SocketAddr::new(ipv6_of(&address.octets), address.port))
+}
+
+/// The endpoint that C's form names; `None` if the family is neither 4 nor 6.
+#[inline(always)]
+pub(crate) fn endpoint_of(address: &Address) -> Option<Endpoint>
+    ensures { result ≡ endpoint_named address.now }
+{
+    match address.family {
+        4 => Some(Endpoint {
+            ip: Ip {
+                family: 1,
+                number: BigEndian::read_u32(&address.octets) as u128,
+            },
+            port: address.port,
+        }),
+        6 => Some(ipv6_endpoint(address)),
+        _ => None,
+    }
+}
+
+/// An IPv4 address in C's form.
+fn ipv4_in_c(ip: [u8; 4], port: u16) -> Address
+    ensures { Holds (plain_socket (V4 (record { octets = ip })) port) result }
+{
+    let [a, b, c, d] = ip;
+    Address {
+        octets: [a, b, c, d, 0, 0, 0, 0, 0, 0, 0, 0, 0, 0, 0, 0],
+        port,
+        family: 4,
+    }
+}
+
+/// An endpoint in C's form.
+#[inline(always)]
+pub(crate) fn address_of(endpoint: Endpoint) -> Address
+    ensures { Holds (socket_of endpoint) result }
+{
+    if endpoint.ip.family == 1 {
+        let [.., a, b, c, d] = endpoint.ip.number.to_be_bytes();
+        return ipv4_in_c([a, b, c, d], endpoint.port);
+    }
+    in_c(SocketAddr::from(endpoint))
 }
 
 /// Whether the addresses in attributes of this type are XORed with the transaction ID.

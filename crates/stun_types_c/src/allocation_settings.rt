@@ -62,14 +62,17 @@ pub struct CAllocationSettings<'a> {
     pub family: u16,
     /// Not 0: requests have a FINGERPRINT.
     pub fingerprint: u16,
+    /// The most peers that one CreatePermission request names; 0: 8.
+    pub named: u32,
     /// 0.
-    pub reserved: u64,
+    pub reserved: u32,
 }
 
-/// How many peers, sendings and retries there are at most.
+/// How many peers, peers of one request, sendings and retries there are at most.
 #[derive(Clone, Copy)]
 pub(crate) struct Counts {
     pub(crate) peers: u16,
+    pub(crate) named: u8,
     pub(crate) sends: u8,
     pub(crate) retries: u8,
 }
@@ -133,6 +136,19 @@ fn peers_of(number: u32) -> Option<u16>
     Some(number as u16)
 }
 
+/// A number of peers that one request names.
+fn named_of(number: u32) -> Option<u8>
+    ensures { result ≡ number_named 16 8 number }
+{
+    if number == 0 {
+        return Some(8);
+    }
+    if number > 16 {
+        return None;
+    }
+    Some(number as u8)
+}
+
 /// A number of times.
 pub(crate) fn times_of(usual: u8, number: u32) -> Option<u8>
     ensures { result ≡ number_named 255 usual number }
@@ -150,10 +166,12 @@ fn counts_of(named: &CAllocationSettings<'_>) -> Option<Counts>
     ensures { result ≡ counts_named named.now }
 {
     let peers = peers_of(named.peers)?;
+    let most_named = named_of(named.named)?;
     let sends = times_of(7, named.sends)?;
     let retries = times_of(3, named.retries)?;
     Some(Counts {
         peers,
+        named: most_named,
         sends,
         retries,
     })
@@ -211,6 +229,7 @@ fn settings_by(
                 family,
                 is_reliable: false,
                 most_peers: counts.peers,
+                most_named: counts.named,
                 most_sends: counts.sends,
                 most_retries: counts.retries,
                 rto,
@@ -222,6 +241,7 @@ fn settings_by(
             family,
             is_reliable: true,
             most_peers: counts.peers,
+            most_named: counts.named,
             most_sends: 1,
             most_retries: counts.retries,
             rto: 500_000_000,

@@ -1,12 +1,10 @@
 //! Where datagrams of TURN come from and go to, in C's form.
 
-ghost use Rattle.std.specs.Prelude.{◌≡◌};
-ghost use Rattle.stun_endpoints.specs.Conversions.{socket_of};
-ghost use Rattle.stun_types_c.specs.Addresses.{Holds};
+ghost use Rattle.std.specs.Prelude.{◌≡◌, true, false, None, Some};
 ghost use Rattle.stun_types_c.specs.TurnAddresses.{transport_named, tuple_named, ready_named, family_named, sockets_named, HoldsTuple};
 
-use crate::address::{Address, in_c, socket_of};
-use std::net::SocketAddr;
+pub(crate) use crate::address::address_of;
+use crate::address::{Address, endpoint_of};
 use stun_endpoints::{Endpoint, FiveTuple};
 use turn_server::{Ready, Sockets};
 
@@ -64,21 +62,14 @@ fn transport_of(stream: u16) -> Option<u8>
 pub(crate) fn tuple_of(named: &CFiveTuple) -> Option<FiveTuple>
     ensures { result ≡ tuple_named named.now }
 {
-    let client = socket_of(&named.client)?;
-    let server = socket_of(&named.server)?;
+    let client = endpoint_of(&named.client)?;
+    let server = endpoint_of(&named.server)?;
     let transport = transport_of(named.stream)?;
     Some(FiveTuple {
-        client: Endpoint::from(client),
-        server: Endpoint::from(server),
+        client,
+        server,
         transport,
     })
-}
-
-/// An address, in C's form.
-pub(crate) fn address_of(endpoint: Endpoint) -> Address
-    ensures { Holds (socket_of endpoint) result }
-{
-    in_c(SocketAddr::from(endpoint))
 }
 
 /// A 5-tuple, in C's form.
@@ -92,42 +83,56 @@ pub(crate) fn tuple_in_c(tuple: &FiveTuple) -> CFiveTuple
     }
 }
 
-/// The address of a socket that is ready, if there is one; an error if it isn't of this family.
-fn endpoint_in(address: &Address, family: u16) -> Option<Option<Endpoint>>
-    ensures { result ≡ ready_named family address.now }
+/// Reads the address of a socket that is ready, if there is one; `false` if it isn't of this family.
+fn read_ready(address: &Address, family: u16, socket: &mut Option<Endpoint>) -> bool
+    ensures read { result ≡ true → ready_named family address.now ≡ Some socket.new }
+    ensures wrong { result ≡ false → ready_named family address.now ≡ None }
 {
     if address.family == 0 {
-        return Some(None);
+        *socket = None;
+        return true;
     }
     if address.family != family {
-        return None;
+        return false;
     }
-    let address = socket_of(address)?;
-    Some(Some(Endpoint::from(address)))
+    match endpoint_of(address) {
+        Some(endpoint) => {
+            *socket = Some(endpoint);
+            true
+        }
+        None => false,
+    }
 }
 
-/// The sockets of a family that are ready.
-fn ready_of(family: u16, any: &Address, even: &Address) -> Option<Ready>
-    ensures { result ≡ family_named family any.now even.now }
+/// Reads the sockets of a family that are ready; `false` if one is of another family.
+fn read_family(family: u16, any: &Address, even: &Address, ready: &mut Ready) -> bool
+    ensures read { result ≡ true → family_named family any.now even.now ≡ Some ready.new }
+    ensures wrong { result ≡ false → family_named family any.now even.now ≡ None }
 {
-    let any = endpoint_in(any, family)?;
-    let even = endpoint_in(even, family)?;
-    Some(Ready {
-        any,
-        even,
-        pair: None,
-    })
+    ready.pair = None;
+    read_ready(any, family, &mut ready.any) && read_ready(even, family, &mut ready.even)
 }
 
-/// The sockets that C has ready; `None` if one has an address of another family.
-pub(crate) fn sockets_of(ready: &CTurnReady) -> Option<Sockets>
-    ensures { result ≡ sockets_named ready.now }
+/// No sockets of a family.
+const NONE_READY: Ready = Ready {
+    any: None,
+    even: None,
+    pair: None,
+};
+
+/// No sockets.
+pub(crate) const NO_SOCKETS: Sockets = Sockets {
+    ipv4: NONE_READY,
+    ipv6: NONE_READY,
+    token: 0,
+};
+
+/// Reads the sockets that C has ready; `false` if one has an address of another family.
+pub(crate) fn read_sockets(ready: &CTurnReady, sockets: &mut Sockets) -> bool
+    ensures read { result ≡ true → sockets_named ready.now ≡ Some sockets.new }
+    ensures wrong { result ≡ false → sockets_named ready.now ≡ None }
 {
-    let ipv4 = ready_of(4, &ready.any_ipv4, &ready.even_ipv4)?;
-    let ipv6 = ready_of(6, &ready.any_ipv6, &ready.even_ipv6)?;
-    Some(Sockets {
-        ipv4,
-        ipv6,
-        token: 0,
-    })
+    sockets.token = 0;
+    read_family(4, &ready.any_ipv4, &ready.even_ipv4, &mut sockets.ipv4)
+        && read_family(6, &ready.any_ipv6, &ready.even_ipv6, &mut sockets.ipv6)
 }

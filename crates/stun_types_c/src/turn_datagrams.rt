@@ -14,7 +14,9 @@ use crate::call_result::{CResult, plain, write_result};
 use crate::codes;
 use crate::handle::{put, take};
 use crate::shared_key::SharedKey;
-use crate::turn_addresses::{CFiveTuple, CTurnReady, NOWHERE, address_of, sockets_of, tuple_of};
+use crate::turn_addresses::{
+    CFiveTuple, CTurnReady, NO_SOCKETS, NOWHERE, address_of, read_sockets, tuple_of,
+};
 use crate::turn_core::TurnCore;
 use crate::turn_handle::CTurn;
 use std::alloc::{AllocError, Global};
@@ -114,46 +116,46 @@ fn opened_in_c(opened: Option<Opened>) -> COpened
     }
 }
 
-/// What C does for a response.
-fn responding(response: &Response, ended: usize) -> (CResult, CTurnAction)
-    ensures { IsSent response.now ended result.0 result.1 }
+/// Writes what C does for a response.
+fn respond(response: &Response, ended: usize, out: &mut CTurnAction) -> CResult
+    ensures { IsSent response.now ended result out.new }
 {
     let (result, kind, length, code) = match response.written {
         Ok(length) => (plain(codes::OK), 1, length, response.code.unwrap_or(0)),
         Err(error) => (write_result(error), 0, 0, 0),
     };
-    (
-        result,
-        CTurnAction {
-            relay: 0,
-            at: 0,
-            length,
-            ended,
-            ipv4: opened_in_c(response.opened.ipv4),
-            ipv6: opened_in_c(response.opened.ipv6),
-            peer: NOWHERE,
-            kind,
-            code: u32::from(code),
-            dont_fragment: 0,
-        },
-    )
+    *out = CTurnAction {
+        relay: 0,
+        at: 0,
+        length,
+        ended,
+        ipv4: opened_in_c(response.opened.ipv4),
+        ipv6: opened_in_c(response.opened.ipv6),
+        peer: NOWHERE,
+        kind,
+        code: u32::from(code),
+        dont_fragment: 0,
+    };
+    result
 }
 
-/// What C does for an action of a call that ended some relayed addresses.
-fn in_c(action: &Action, ended: usize) -> (CResult, CTurnAction)
-    ensures { IsInC action.now ended result.0 result.1 }
+/// Writes what C does for an action of a call that ended some relayed addresses.
+fn put_action(action: &Action, ended: usize, out: &mut CTurnAction) -> CResult
+    ensures { IsInC action.now ended result out.new }
 {
     match action {
-        Action::Dropped => (plain(codes::OK), of_kind(0, ended)),
-        Action::Response(response) => responding(response, ended),
+        Action::Dropped => {
+            *out = of_kind(0, ended);
+            plain(codes::OK)
+        }
+        Action::Response(response) => respond(response, ended, out),
         Action::ToPeer {
             number,
             peer,
             dont_fragment,
             data,
-        } => (
-            plain(codes::OK),
-            CTurnAction {
+        } => {
+            *out = CTurnAction {
                 relay: *number,
                 at: data.at,
                 length: data.length,
@@ -164,8 +166,9 @@ fn in_c(action: &Action, ended: usize) -> (CResult, CTurnAction)
                 kind: 2,
                 code: 0,
                 dont_fragment: u32::from(*dont_fragment),
-            },
-        ),
+            };
+            plain(codes::OK)
+        }
     }
 }
 
@@ -176,18 +179,20 @@ fn take_datagram(
     now: u64,
     tuple: &FiveTuple,
     datagram: &[u8],
-    sockets: Sockets,
+    sockets: &Sockets,
     keys: &OneUser<'_>,
     room: &mut [u8],
 ) -> Result<Action, AllocError>
-    ensures acts { IfOk result (Acts core.old.access sockets (keys_of keys.now) (setup_in core.old)
+    ensures acts { IfOk result (Acts core.old.access sockets.now (keys_of keys.now) (setup_in core.old)
         (rules_in core.old) tuple.now now datagram.now core.old.server core.new.server room.old room.new) }
     ensures same { IsSameServer core.old core.new }
     ensures memory { asks_for_key core.old now tuple.now.client datagram.now ≡ false → IsOk result }
     ensures err { OnErr result ((core.new ≡ core.old) × (room.new ≡ room.old)) }
 {
-    let access = &core.access;
-    let site = Site { access, sockets };
+    let site = Site {
+        access: &core.access,
+        sockets: *sockets,
+    };
     let peers = core.rules.peers();
     core.server
         .on_client_datagram(alloc, now, tuple, datagram, &site, keys, &peers, room)
@@ -200,12 +205,12 @@ fn act(
     now: u64,
     tuple: &FiveTuple,
     datagram: &[u8],
-    sockets: Sockets,
+    sockets: &Sockets,
     keys: &OneUser<'_>,
     room: &mut [u8],
     out: &mut CTurnAction,
 ) -> CResult
-    ensures { ActsOn core.old now tuple.now datagram.now (keys_of keys.now) sockets result
+    ensures { ActsOn core.old now tuple.now datagram.now (keys_of keys.now) sockets.now result
         (record { core = Some core.old; slice = room.old; action = out.old })
         (record { core = Some core.new; slice = room.new; action = out.new }) }
 {
@@ -213,9 +218,8 @@ fn act(
         Ok(action) => action,
         Err(AllocError) => return plain(codes::OUT_OF_MEMORY),
     };
-    let (result, done) = in_c(&action, core.server.ended().len());
-    *out = done;
-    result
+    let ended = core.server.ended().len();
+    put_action(&action, ended, out)
 }
 
 /// Whether what comes of a datagram depends on a key.
@@ -232,14 +236,14 @@ fn take_known(
     now: u64,
     tuple: &FiveTuple,
     datagram: &[u8],
-    sockets: Sockets,
+    sockets: &Sockets,
     looked_up: bool,
     keys: &OneUser<'_>,
     room: &mut [u8],
     out: &mut CTurnAction,
 ) -> CResult
     ensures { Takes (not looked_up && asks_for_key core.old now tuple.now.client datagram.now) core.old
-        now tuple.now datagram.now (keys_of keys.now) sockets result
+        now tuple.now datagram.now (keys_of keys.now) sockets.now result
         (record { core = Some core.old; slice = room.old; action = out.old })
         (record { core = Some core.new; slice = room.new; action = out.new }) }
 {
@@ -281,10 +285,13 @@ pub extern "C" fn stun_types_turn_client(
     if datagram.reserved != 0 {
         return plain(codes::BAD_ARGUMENT);
     }
-    let (Some(tuple), Some(sockets)) = (tuple_of(&datagram.from), sockets_of(&datagram.ready))
-    else {
+    let Some(tuple) = tuple_of(&datagram.from) else {
         return plain(codes::BAD_ARGUMENT);
     };
+    let mut sockets = NO_SOCKETS;
+    if !read_sockets(&datagram.ready, &mut sockets) {
+        return plain(codes::BAD_ARGUMENT);
+    }
     let Some(mut core) = take(server, alloc) else {
         return plain(codes::BAD_ARGUMENT);
     };
@@ -292,7 +299,7 @@ pub extern "C" fn stun_types_turn_client(
     let looked_up = datagram.looked_up != 0;
     let bytes = datagram.bytes;
     let result = take_known(
-        alloc, &mut core, now, &tuple, bytes, sockets, looked_up, &keys, room, action,
+        alloc, &mut core, now, &tuple, bytes, &sockets, looked_up, &keys, room, action,
     );
     put(server, core);
     result

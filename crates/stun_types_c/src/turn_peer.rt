@@ -7,7 +7,7 @@ ghost use Rattle.stun_types_c.specs.TurnHandles.{held_turn};
 ghost use Rattle.stun_types_c.specs.TurnPeers.{dropped, nowhere_due, IsDelivery, Receives, ReceivesIn, TakesPeer};
 ghost use Rattle.stun_types_c.specs.TurnServers.{rules_in, setup_in};
 
-use crate::address::{Address, socket_of};
+use crate::address::{Address, endpoint_of};
 use crate::call_result::{CResult, counted, plain};
 use crate::codes;
 use crate::handle::{put, take};
@@ -156,14 +156,13 @@ pub extern "C" fn stun_types_turn_peer(
         (record { core = held_turn server.new; delivered = record { slice = head.new; delivery = delivery.new } }) }
 {
     *delivery = dropped(0);
-    let Some(peer) = socket_of(peer) else {
+    let Some(peer) = endpoint_of(peer) else {
         return plain(codes::BAD_ARGUMENT);
     };
     let Some(mut core) = take(server, alloc) else {
         return plain(codes::BAD_ARGUMENT);
     };
     let id = TransactionId::from_bytes(&id.bytes);
-    let peer = Endpoint::from(peer);
     let result = receive_in(&mut core, now, relay, peer, data_length, id, head, delivery);
     put(server, core);
     result

@@ -2,13 +2,15 @@
 -- channel; for the family of the client, the newest that has not expired.
 use Rattle.std.proofs.Common.{◌≡◌, ℕ, Bool, true, false, cond, List, [], ◌∷◌, filter, find, Option, None, Some, refl, sym, ap, ◌∙◌, subst}
 use Rattle.std.specs.List.{AllByRecursion, list_any}
-use Rattle.std.specs.Option.{option_map, option_or}
+use Rattle.std.specs.Option.{option_map, option_map_or, option_or}
 use Rattle.std.specs.Prelude.{◌+◌, ◌&&◌, ◌||◌, ◌==◌, nat_le, IfSome, option_and_then, is_some}
 use Rattle.std.proofs.lemmas.Bool.{cond_both, cond-false, and_left, and_parts}
+use Rattle.stun_endpoints.specs.declared.endpoints.Endpoint.{Endpoint}
 use Rattle.stun_endpoints.specs.declared.endpoints.FiveTuple.{FiveTuple}
 use Rattle.turn_machine.specs.Relays.{Relay, seconds, is_of, is_live, is_channel}
 use Rattle.turn_machine.specs.declared.grants.Channel.{Channel}
 use Rattle.turn_machine.specs.Data.{has_channel}
+use Rattle.turn_machine.specs.Flows.{flow_by, flow_on}
 use Rattle.turn_relays.specs.Relayed.{Table, state_of}
 use Rattle.turn_allocations.specs.declared.client.Place.{Place}
 use Rattle.turn_allocations.specs.Clients.{in_place, is_sound, lifetime_max, AreSound}
@@ -76,6 +78,52 @@ module _ (now channel : ℕ) (tuple : FiveTuple) where
       ap (option_and_then (peer_by now channel)) (find_kept (is_of tuple) (has_channel now tuple channel) of_client (state_of t).relays
       ∙ ap (find (has_channel now tuple channel)) newest.all)
       ∙ two_peers (in_place t one) (in_place t other) each
+
+  -- ---- The flow on a channel
+
+  first_flow : (s : Relay) → is_of tuple s ≡ true → (rest : Option Relay)
+      → option_and_then (flow_on now channel) (cond (has_channel now tuple channel s) (Some s) rest) ≡ option_map_or (λ _. flow_on now channel s) (peer_by now channel s) (option_and_then (flow_on now channel) rest)
+  first_flow s is rest =
+      ap (λ (b : Bool). option_and_then (flow_on now channel) (cond (b && list_any (is_channel now channel) s.channels) (Some s) rest)) is
+      ∙ (ap (λ (b : Bool). option_and_then (flow_on now channel) (cond b (Some s) rest)) (any_found (is_channel now channel) s.channels)
+      ∙ either (find (is_channel now channel) s.channels))
+    where
+      either : (o : Option Channel) → option_and_then (flow_on now channel) (cond (is_some o) (Some s) rest) ≡ option_map_or {T = ℕ × Endpoint} (λ _. flow_on now channel s) (option_map (λ c. (s.number, c.peer)) o) (option_and_then (flow_on now channel) rest)
+      either None = refl
+      either (Some c) = refl
+
+  -- without the channel there is no flow
+  last_flow : (s : Relay) → is_of tuple s ≡ true → option_and_then (flow_on now channel) (cond (has_channel now tuple channel s) (Some s) None) ≡ flow_on now channel s
+  last_flow s is = first_flow s is None ∙ either (find (is_channel now channel) s.channels) refl
+    where
+      either : (o : Option Channel) → find (is_channel now channel) s.channels ≡ o → option_map_or {T = ℕ × Endpoint} (λ _. flow_on now channel s) (option_map (λ c. (s.number, c.peer)) o) None ≡ flow_on now channel s
+      either None none = sym (ap (λ (o : Option Channel). option_map_or (flow_by now s) o None) none)
+      either (Some c) there = refl
+
+  two_flows : (one other : Option Relay) → AllByRecursion (λ r. is_of tuple r ≡ true) (listed_two one other)
+      → option_and_then (flow_on now channel) (find (has_channel now tuple channel) (listed_two one other))
+      ≡ option_map_or (λ _. option_and_then (flow_on now channel) one) (option_and_then (peer_by now channel) one) (option_and_then (flow_on now channel) other)
+  two_flows None None each = refl
+  two_flows None (Some s) each = last_flow s each.0
+  two_flows (Some r) None each = first_flow r each.0 None
+  two_flows (Some r) (Some s) each =
+      first_flow r each.0 (cond (has_channel now tuple channel s) (Some s) None)
+      ∙ ap (option_map_or (λ _. flow_on now channel r) (peer_by now channel r)) (last_flow s each.1.0)
+
+  flow_in_it : (o : Option Relay) → option_map_or (flow_on now channel) o None ≡ option_and_then (flow_on now channel) o
+  flow_in_it None = refl
+  flow_in_it (Some r) = refl
+
+  -- the newest with the channel decides
+  pub newest_flow : (t : Table) (one other : Option Place) → AreNewestFirst t tuple one other
+      → option_map_or (flow_on now channel) (find (has_channel now tuple channel) (state_of t).relays) None
+      ≡ option_map_or (λ _. option_and_then (flow_on now channel) (in_place t one)) (option_and_then (peer_by now channel) (in_place t one)) (option_and_then (flow_on now channel) (in_place t other))
+  newest_flow t one other newest =
+      let each = subst (λ (rs : List Relay). AllByRecursion (λ r. is_of tuple r ≡ true) rs) newest.all (all_kept (is_of tuple) (state_of t).relays) in
+      flow_in_it (find (has_channel now tuple channel) (state_of t).relays)
+      ∙ (ap (option_and_then (flow_on now channel)) (find_kept (is_of tuple) (has_channel now tuple channel) of_client (state_of t).relays
+      ∙ ap (find (has_channel now tuple channel)) newest.all)
+      ∙ two_flows (in_place t one) (in_place t other) each)
 
 -- ---- The family of the newest that has not expired
 

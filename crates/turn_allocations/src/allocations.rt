@@ -6,6 +6,7 @@ ghost use Rattle.std.specs.Option.{option_map};
 ghost use Rattle.turn_slots.specs.Users.{user_number};
 ghost use Rattle.turn_machine.specs.Relays.{Rules, is_of, is_users};
 ghost use Rattle.turn_machine.specs.Events.{Icmp, asks, sends, sends_on, arrives, bounces, ends, ends_user, ticks, answers, nothing};
+ghost use Rattle.turn_machine.specs.Flows.{flow_of};
 ghost use Rattle.turn_machine.specs.Times.{at};
 ghost use Rattle.turn_machine.specs.Runs.{initial_state};
 ghost use Rattle.turn_relays.specs.Iterating.{relayed_left};
@@ -21,7 +22,7 @@ use crate::answer::Answer;
 use crate::client::client_of;
 use crate::ended::Ended;
 use crate::limits::Limits;
-use crate::relaying::{ToClient, ToPeer, bounce, newest_family, receive, send, send_on};
+use crate::relaying::{ToClient, ToPeer, bounce, flow_of, newest_family, receive, send, send_on};
 use crate::request::Request;
 use crate::serving::serve;
 use crate::sweeping::{end_number, end_users, sweep};
@@ -29,7 +30,7 @@ use std::alloc::{AllocError, Global};
 use std::marker::Model;
 use stun_endpoints::{Endpoint, FiveTuple};
 use turn_peers::PeerPolicy;
-use turn_relays::{Iter, Relays, list_follows_slots, lists_have_slots};
+use turn_relays::{Flow, Iter, Relays, list_follows_slots, lists_have_slots};
 use turn_slots::UserId;
 
 /// The allocations of a TURN server (RFC 8656), each relayed address with at most `P` permissions and `C`
@@ -256,6 +257,47 @@ impl<const P: usize, const C: usize> Allocations<P, C> {
     {
         let now = self.relays.clock().max(now as u128);
         newest_family(&client_of(&self.relays, tuple), now)
+    }
+
+    /// Returns the flow on a channel of a client: until it ends, the data of the channel can be relayed in both
+    /// directions without a call for each datagram.
+    ///
+    /// `turn_machine::flows_are_right` states what the flow promises. Ask again once a request of the client has
+    /// succeeded, or after [`Allocations::end`] or [`Allocations::end_user`]; no other call changes it before it
+    /// ends. What the policy forbids is not part of it.
+    ///
+    /// Returns `None` if, at the latest moment of any call, no relayed address of the client has the channel, or
+    /// there is no permission for the IP address of the peer that it is bound to. Ends nothing.
+    ///
+    /// ```
+    /// use stun_endpoints::{Endpoint, FiveTuple, Ip};
+    /// use turn_allocations::{Allocations, Answer, Families, Flow, Limits, Request, Want};
+    /// use turn_peers::Peers;
+    /// use turn_slots::UserId;
+    ///
+    /// let mut allocations = Allocations::<16, 16>::new(alloc, Limits::default(), [1, 2])?;
+    /// let peers = Peers { denied: &[], allowed: &[], listening: &[] };
+    /// let (tuple, user) = (FiveTuple::default(), UserId::from([1; 32]));
+    /// let address = Endpoint { port: 50_000, ..Endpoint::default() };
+    /// let wants = Families { ipv4: Want::Ready(address), ipv6: Want::No };
+    /// let allocate = Request::Allocate { id: 7, lifetime: None, wants };
+    /// let answer = allocations.request(0, &tuple, user, allocate, &peers);
+    /// let Answer::Allocated { given, .. } = answer else {
+    ///     return Err("no allocation")?;
+    /// };
+    /// let number = given.ipv4.ok_or("no relayed address")?.number;
+    /// assert_eq!(rt; allocations.flow(&tuple, 0x4000), None);
+    ///
+    /// let peer = Endpoint { ip: Ip { family: 1, number: 0xC633_6407 }, port: 4000 };
+    /// let bind = Request::ChannelBind { number: 0x4000, peer };
+    /// assert_eq!(rt; allocations.request(1, &tuple, user, bind, &peers), Answer::Done);
+    /// let flow = Flow { number, peer, expires_at: 300_000_000_001 };
+    /// assert_eq!(rt; allocations.flow(&tuple, 0x4000), Some(flow));
+    /// ```
+    pub fn flow(&self, tuple: &FiveTuple, channel: u16) -> Option<Flow>
+        ensures { result ≡ flow_of self.now.state tuple.now channel }
+    {
+        flow_of(&self.relays, &client_of(&self.relays, tuple), channel)
     }
 
     /// Answers a request of an authenticated user (RFC 8656, sections 7.2, 8.2, 10.2 and 12.2).

@@ -1,6 +1,6 @@
 //! The relayed addresses of one client.
 
-ghost use Rattle.std.specs.Prelude.{◌≡◌, ◌&&◌, ◌==◌, not, find, is_some, Some};
+ghost use Rattle.std.specs.Prelude.{◌≡◌, ℕ, ◌&&◌, ◌==◌, not, find, is_some, Some};
 ghost use Rattle.std.specs.List.{list_any};
 ghost use Rattle.std.specs.Option.{option_map, option_map_or};
 ghost use Rattle.stun_endpoints.specs.declared.endpoints.FiveTuple.{FiveTuple};
@@ -9,7 +9,7 @@ ghost use Rattle.turn_machine.specs.Relays.{is_for, is_owned};
 ghost use Rattle.turn_machine.specs.Times.{earlier_of, first_end};
 ghost use Rattle.turn_machine.specs.Opening.{has_of, given_to};
 ghost use Rattle.turn_machine.specs.Rows.{has_any, has_of_another, has_wanted};
-ghost use Rattle.turn_relays.specs.Relayed.{Table, state_of};
+ghost use Rattle.turn_relays.specs.Relayed.{Table, state_of, IsSlotFor};
 ghost use Rattle.turn_allocations.specs.Answers.{given_list};
 ghost use Rattle.turn_allocations.specs.Clients.{IsFound, place_of, in_place, place_any, given_at, AreSound, Owns};
 ghost use Rattle.turn_allocations.specs.Requests.{number_in};
@@ -18,7 +18,7 @@ use crate::answer::Given;
 use crate::families::Families;
 use stun_endpoints::FiveTuple;
 use turn_relays::{Relayed, Relays, list_follows_slots, lists_have_slots, users_are_numbers};
-use turn_slots::{RelayKey, UserId};
+use turn_slots::UserId;
 
 /// A relayed address and its slot.
 #[derive(Clone, Copy)]
@@ -34,19 +34,15 @@ pub(crate) struct Client {
     pub(crate) ipv6: Option<Place>,
 }
 
-/// Finds a client's relayed address of a family.
-fn find<const P: usize, const C: usize>(
+/// The relayed address in a slot, if there is one.
+fn place_in<const P: usize, const C: usize>(
     relays: &Relays<P, C>,
-    tuple: &FiveTuple,
-    family: u8,
+    slot: Option<usize>,
 ) -> Option<Place>
-    ensures { IsFound relays.now tuple.now family result }
+    ensures { (tuple : FiveTuple) (family : ℕ) → IsSlotFor relays.now tuple family slot
+        → IsFound relays.now tuple family result }
 {
-    let key = RelayKey {
-        tuple: *tuple,
-        family,
-    };
-    let slot = relays.find_by_key(&key)?;
+    let slot = slot?;
     let relayed = relays.get(slot)?;
     users_are_numbers(relayed.user);
     Some(Place { slot, relayed })
@@ -63,9 +59,10 @@ pub(crate) fn client_of<const P: usize, const C: usize>(
     list_follows_slots();
     lists_have_slots();
     relays.numbers_are_distinct();
+    let (ipv4, ipv6) = relays.find_by_client(tuple);
     Client {
-        ipv4: find(relays, tuple, 1),
-        ipv6: find(relays, tuple, 2),
+        ipv4: place_in(relays, ipv4),
+        ipv6: place_in(relays, ipv6),
     }
 }
 

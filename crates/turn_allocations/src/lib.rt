@@ -35,4 +35,4 @@ pub use limits::Limits;
 pub use metering::{Meter, Traffic};
 pub use relaying::{ToClient, ToPeer};
 pub use request::{Request, Want};
-pub use turn_relays::{Iter, Relayed};
+pub use turn_relays::{Flow, Iter, Relayed};

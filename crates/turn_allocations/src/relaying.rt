@@ -6,6 +6,7 @@ ghost use Rattle.stun_endpoints.specs.declared.endpoints.FiveTuple.{FiveTuple};
 ghost use Rattle.turn_machine.specs.Relays.{Relay, Setup, is_at, is_live, is_of, is_permitted};
 ghost use Rattle.turn_machine.specs.Events.{Icmp, sends, sends_on, arrives, bounces};
 ghost use Rattle.turn_machine.specs.Data.{allows, has_channel, is_passed, relayed};
+ghost use Rattle.turn_machine.specs.Flows.{flow_on, flow_of};
 ghost use Rattle.turn_relays.specs.Relayed.{Table, state_of, at_slot};
 ghost use Rattle.turn_peers.specs.Policies.{is_peer};
 ghost use Rattle.turn_allocations.specs.Clients.{AreSound, Owns};
@@ -17,7 +18,7 @@ use crate::limits::Limits;
 use crate::permitting::allows_ip;
 use stun_endpoints::{Endpoint, FiveTuple, Ip};
 use turn_peers::PeerPolicy;
-use turn_relays::{Relays, list_follows_slots, users_are_numbers};
+use turn_relays::{Flow, Relays, list_follows_slots, users_are_numbers};
 
 /// The destination of a client's data: from a socket to a peer.
 #[derive(Clone, Copy, Debug, PartialEq, Eq)]
@@ -93,28 +94,30 @@ pub(crate) fn send<const P: usize, const C: usize, A: PeerPolicy>(
 }
 
 /// The places of a client, the newest first.
-fn newest_first(client: &Client) -> (Option<Place>, Option<Place>)
+fn newest_first(client: &Client) -> (&Option<Place>, &Option<Place>)
     ensures { (t : Table) (tuple : FiveTuple) → Owns t tuple client.now
-        → AreNewestFirst t tuple result.0 result.1 }
+        → AreNewestFirst t tuple result.0.now result.1.now }
 {
-    match (client.ipv4, client.ipv6) {
+    match (&client.ipv4, &client.ipv6) {
         (Some(one), Some(other)) if one.relayed.number < other.relayed.number => {
-            (Some(other), Some(one))
+            (&client.ipv6, &client.ipv4)
         }
-        (one, other) => (one, other),
+        _ => (&client.ipv4, &client.ipv6),
     }
 }
 
 /// The number of the relayed address in a place, and the peer that a channel of it is bound to.
 fn peer_in<const P: usize, const C: usize>(
     relays: &Relays<P, C>,
-    place: Option<Place>,
+    place: &Option<Place>,
     channel: u16,
 ) -> Option<(u64, Endpoint)>
-    ensures { (o : Option Relay) → IsPlaced relays.now place o
+    ensures { (o : Option Relay) → IsPlaced relays.now place.now o
         → result ≡ option_and_then (peer_by relays.now.clock channel) o }
 {
-    let place = place?;
+    let Some(place) = place else {
+        return None;
+    };
     let peer = relays.peer_on(place.slot, channel)?;
     Some((place.relayed.number, peer))
 }
@@ -136,9 +139,40 @@ fn peer_on<const P: usize, const C: usize>(
     }
 }
 
+/// The flow on a channel of the relayed address in a place.
+fn flow_in<const P: usize, const C: usize>(
+    relays: &Relays<P, C>,
+    place: &Option<Place>,
+    channel: u16,
+) -> Option<Flow>
+    ensures { (o : Option Relay) → IsPlaced relays.now place.now o
+        → result ≡ option_and_then (flow_on relays.now.clock channel) o }
+{
+    match place {
+        Some(place) => relays.flow_on(place.slot, channel),
+        None => None,
+    }
+}
+
+/// The flow on a channel of the newest relayed address of a client with the channel.
+pub(crate) fn flow_of<const P: usize, const C: usize>(
+    relays: &Relays<P, C>,
+    client: &Client,
+    channel: u16,
+) -> Option<Flow>
+    ensures { (tuple : FiveTuple) → Owns relays.now tuple client.now
+        → result ≡ flow_of (state_of relays.now) tuple channel }
+{
+    let (first, second) = newest_first(client);
+    match peer_in(relays, first, channel) {
+        Some(_) => flow_in(relays, first, channel),
+        None => flow_in(relays, second, channel),
+    }
+}
+
 /// The family of the relayed address in a place, unless it has expired.
-fn live_family(place: Option<Place>, now: u128) -> Option<u8>
-    ensures { (t : Table) (o : Option Relay) → IsPlaced t place o
+fn live_family(place: &Option<Place>, now: u128) -> Option<u8>
+    ensures { (t : Table) (o : Option Relay) → IsPlaced t place.now o
         → result ≡ option_and_then (live_family now) o }
 {
     match place {

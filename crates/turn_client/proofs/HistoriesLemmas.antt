@@ -37,6 +37,14 @@ pub user_stays : (client : Client) (moments : List Moment) → (after_all client
 user_stays client [] = refl
 user_stays client (m ∷ earlier) = stepped_user (after_all client earlier) m.now m.fresh m.call ∙ user_stays client earlier
 
+stepped_transport : (client : Client) (now fresh : ℕ) (call : Call) → (stepped client now fresh call).transport ≡ client.transport
+stepped_transport client now fresh (calls event) = refl
+stepped_transport client now fresh (takes from d brought) = refl
+
+pub transport_stays : (client : Client) (moments : List Moment) → (after_all client moments).transport ≡ client.transport
+transport_stays client [] = refl
+transport_stays client (m ∷ earlier) = stepped_transport (after_all client earlier) m.now m.fresh m.call ∙ transport_stays client earlier
+
 pub history_before : (client : Client) (m : Moment) (earlier : List Moment) → IsHistory client (m ∷ earlier) → IsHistory client earlier
 history_before client m earlier h = record { begun = h.begun; bare = h.bare; calls = h.calls.1; distinct = h.distinct.1 }
 

@@ -2,7 +2,7 @@ mod ListsLemmas
 mod ReceivingLemmas
 mod KeptLemmas
 mod RunsLemmas
-mod HistoriesLemmas
+pub mod HistoriesLemmas
 mod JudgedLemmas
 mod RespondingLemmas
 mod WarrantsLemmas
@@ -11,3 +11,6 @@ mod LastingLemmas
 mod WakingLemmas
 mod ServingLemmas
 mod HearingLemmas
+mod AttemptsLemmas
+mod PollingLemmas
+mod RoundsLemmas

@@ -15,7 +15,7 @@ use Rattle.turn_client_machine.specs.declared.requests.Request.{Request}
 use Rattle.stun_endpoints.specs.Endpoints.{is_endpoint}
 use Rattle.turn_client_machine.specs.Clients.{Setup, State, is_active, is_allocated}
 use Rattle.turn_client_machine.specs.Events.{Event, responds, gives, gives_on, strays, nothing}
-use Rattle.turn_client_machine.specs.Responses.{answered, awaits_of, changed_first, responded, violated_by}
+use Rattle.turn_client_machine.specs.Responses.{answered, awaits_of, changed_each, given_up, noted, responded, violated_by}
 use Rattle.turn_client_machine.specs.Steps.{at, happens, step}
 use Rattle.turn_client_machine.specs.Strangers.{counts_unsigned, is_stranger}
 use Rattle.turn_client_machine.specs.Tasks.{awaits}
@@ -89,11 +89,11 @@ unanswered_ages unchanged alone client now from d next none r =
 
 -- ---- Marks
 
-marked_each : (setup : Setup) (id : ℕ) (ps : List Peer) → setup.is_reliable ≡ false → map {B = Peer} unmarked_peer (changed_first (awaits_of id) (violated_by setup) ps) ≡ map {B = Peer} unmarked_peer ps
+marked_each : (setup : Setup) (id : ℕ) (ps : List Peer) → setup.is_reliable ≡ false → map {B = Peer} unmarked_peer (changed_each (awaits_of id) (violated_by setup) ps) ≡ map {B = Peer} unmarked_peer ps
 marked_each setup id [] loose = refl
 marked_each setup id (p ∷ ps) loose =
-    cond_both (awaits_of id p) (violated_by setup p ∷ ps) (p ∷ changed_first (awaits_of id) (violated_by setup) ps) (λ qs. map {B = Peer} unmarked_peer qs ≡ map {B = Peer} unmarked_peer (p ∷ ps))
-    (λ _. ap (λ (q : Peer). unmarked_peer q ∷ map {B = Peer} unmarked_peer ps) (cond-false setup.is_reliable _ (record p { violated = true }) loose))
+    cond_both (awaits_of id p) (violated_by setup p) p (λ (q : Peer). map {B = Peer} unmarked_peer (q ∷ changed_each (awaits_of id) (violated_by setup) ps) ≡ map {B = Peer} unmarked_peer (p ∷ ps))
+    (λ _ i. ap unmarked_peer (cond-false setup.is_reliable (given_up 0 (noted p)) (noted p) loose) i ∷ marked_each setup id ps loose i)
     (λ _. ap (λ qs. unmarked_peer p ∷ qs) (marked_each setup id ps loose))
 
 marked_task : (setup : Setup) (state : State) (o : Option Pending) → setup.is_reliable ≡ false → unmarked_state (option_map_or (λ (p : Pending). answered setup false Violated state p.request) o state) ≡ unmarked_state state

@@ -6,6 +6,7 @@ use Rattle.std.proofs.lemmas.Bool.{true≢false}
 use Rattle.stun_grammar.specs.Numbers.{IsBytes}
 use Rattle.stun_authentication.specs.Requests.{User, user_key}
 use Rattle.stun_keys.specs.Keys.{IsKey}
+use Rattle.turn_machine.specs.Lists.{SomeOf}
 use Rattle.turn_client_machine.specs.declared.requests.Answer.{Answer}
 use Rattle.turn_client_machine.specs.declared.requests.Answer.TheVariants.{Opened, Extended, Done, Refused, Challenged, Redirected, Violated}
 use Rattle.stun_endpoints.specs.declared.endpoints.Ip.{Ip}
@@ -15,12 +16,12 @@ use Rattle.turn_client_machine.specs.declared.requests.Request.{Request}
 use Rattle.stun_endpoints.specs.Endpoints.{is_endpoint}
 use Rattle.turn_client_machine.specs.declared.requests.Kind.TheVariants.{Allocate, Refresh, Delete, Permit, Bind}
 use Rattle.turn_client_machine.specs.Clients.{Setup}
-use Rattle.turn_client_machine.specs.Events.{Event, permits, binds, sends, responds, polls, send_to, send_on, shows}
-use Rattle.turn_client_machine.specs.Identified.{AreDistinct as AreDistinctThere, IsUnderWay}
+use Rattle.turn_client_machine.specs.Events.{Event, permits, binds, sends, responds, polls, Output, asks, send_to, send_on, shows, nothing}
+use Rattle.turn_client_machine.specs.Identified.{AreDistinct as AreDistinctThere, AreOneRequest, IsUnderWay}
 use Rattle.turn_client_machine.specs.Joined.{is_success}
-use Rattle.turn_client_machine.specs.Runs.{Timed, Happened, happening, history, run}
+use Rattle.turn_client_machine.specs.Runs.{Timed, Happened, Happening, happening, history, run}
 use Rattle.turn_client_machine.specs.Steps.{at}
-use Rattle.turn_client_machine.specs.Warrants.{Asks, Binds, Confirmed, IsAskedFor as IsAskedThere, IsBound as IsBoundThere, IsPermitted as IsPermittedThere, IsRight, Lasts, NamesPeer as NamesThere, Permits, lifetime_of}
+use Rattle.turn_client_machine.specs.Warrants.{Asks, AsksFor, Binds, Confirmed, IsAskedFor as IsAskedThere, IsBound as IsBoundThere, IsPartOf, IsPermitted as IsPermittedThere, IsRight, Lasts, NamesPeer as NamesThere, Permits, lifetime_of}
 use Rattle.turn_client_messages.specs.Judging.{success}
 use Rattle.turn_client_messages.specs.Origins.{IsSigned}
 use Rattle.turn_client_messages.specs.Requests.{method_for}
@@ -46,7 +47,7 @@ abbrev pub WasSent : Type 0
 WasSent = (setup : Setup) (events : List Timed) (r : Request) → IsUnderWay (run setup events) r → Happened (Asks r) (history setup events)
 
 abbrev pub IsOne : Type 0
-IsOne = (setup : Setup) (events : List Timed) (r other : Request) → AreDistinctThere events → Happened (Asks r) (history setup events) → Happened (Asks other) (history setup events) → r.id ≡ other.id → r ≡ other
+IsOne = (setup : Setup) (events : List Timed) (r other : Request) → AreDistinctThere events → Happened (Asks r) (history setup events) → Happened (Asks other) (history setup events) → r.id ≡ other.id → AreOneRequest r other
 
 pub record Laws : Type 0 where
   pub so : JudgedSo
@@ -91,6 +92,28 @@ signed_by_user client moments r d h signed =
 
 -- ---- Requests
 
+-- a request is an output at polls alone
+asked_polls : (setup : Setup) (hs : List Happening) (now : ℕ) (event : Event) (r : Request) (o : Output) → AsksFor r o → IsRight setup hs now event o → event ≡ polls
+asked_polls setup hs now event r (asks first others) asked right = right.0
+asked_polls setup hs now event r (send_to peer bytes) asked right = absurd asked
+asked_polls setup hs now event r (send_on number bytes) asked right = absurd asked
+asked_polls setup hs now event r (shows peer bytes) asked right = absurd asked
+asked_polls setup hs now event r nothing asked right = absurd asked
+
+-- what is the same of all permissions is the same of all that one request asks for
+module _ {X : Type 0} (f : Kind → X) (each : (p q : Endpoint) → f (Permit p) ≡ f (Permit q)) where
+  along_same : (first r : Request) (peer : Endpoint) (others : List Endpoint) → first.kind ≡ Permit peer → SomeOf (λ other. r ≡ record first { kind = Permit other }) others → f r.kind ≡ f first.kind
+  along_same first r peer [] is some = absurd some
+  along_same first r peer (o ∷ os) is (inl e) = ap (λ (x : Request). f x.kind) e ∙ each o peer ∙ sym (ap f is)
+  along_same first r peer (o ∷ os) is (inr more) = along_same first r peer os is more
+
+  part_same : (first r : Request) (others : List Endpoint) → IsPartOf first others r → f r.kind ≡ f first.kind
+  part_same first r others (inl e) = ap (λ (x : Request). f x.kind) e
+  part_same first r others (inr a) = along_same first r a.peer others a.kind a.named
+
+  one_same : (r other : Request) → AreOneRequest r other → f r.kind ≡ f other.kind
+  one_same r other o = part_same o.first r o.others o.one ∙ sym (part_same o.first other o.others o.two)
+
 module _ (laws : Laws) where
   writes : (client : Client) (r : Request) (earlier : List Moment) (m : Moment) → IsHistory client (m ∷ earlier)
       → Asks r (happening (setup_of client.held.settings) (run (setup_of client.held.settings) (timed_all client earlier)) (timed_at (after_all client earlier) m)) → Writes client r earlier m
@@ -98,9 +121,9 @@ module _ (laws : Laws) where
       let setup = setup_of client.held.settings in
       let timed = timed_at (after_all client earlier) m in
       let it = happening setup (run setup (timed_all client earlier)) timed in
-      let right = subst (IsRight setup (history setup (timed_all client earlier)) it.moment it.event) a.asked (laws.right setup (timed_all client earlier) timed) in
+      let poll = asked_polls setup (history setup (timed_all client earlier)) it.moment it.event r it.output a.asked (laws.right setup (timed_all client earlier) timed) in
       record {
-        polled = user_call (after_all client earlier) m.call polls refl right.0;
+        polled = user_call (after_all client earlier) m.call polls refl poll;
         sent = subst (Asks r) (happened_is client earlier m h.begun) a;
       }
 
@@ -125,7 +148,7 @@ module _ (laws : Laws) where
       let setup = setup_of client.held.settings in
       let hist = history_before client m earlier h in
       let under_way : IsUnderWay (run setup (timed_all client earlier)) r.request = subst (λ (x : Held). IsUnderWay x.state r.request) (held_run client earlier h.begun) r.under_way in
-      let same : r.request ≡ request = laws.one setup (timed_all client earlier) r.request request (distinct_timed client earlier hist.distinct) (laws.sent setup (timed_all client earlier) r.request under_way) sent r.id_is in
+      let one : AreOneRequest r.request request = laws.one setup (timed_all client earlier) r.request request (distinct_timed client earlier hist.distinct) (laws.sent setup (timed_all client earlier) r.request under_way) sent r.id_is in
       let granted = r.granted good in
       record {
         from = from;
@@ -138,11 +161,11 @@ module _ (laws : Laws) where
         responds = record {
           parses = r.answers.parses;
           succeeds = granted.0;
-          method_is = r.answers.method_is ∙ ap (λ (x : Request). method_for x.kind) same;
+          method_is = r.answers.method_is ∙ one_same method_for (λ p q. refl) r.request request one;
           id_is = shown_id request.id d r.answers.responds;
           signed = signed_by_user client earlier r.request d hist (r.trusted refl good);
         };
-        granted = subst (P request) (granted.1 ∙ ap (λ (x : Request). success x.kind d) same) holds;
+        granted = subst (P request) (granted.1 ∙ one_same (λ kind. success kind d) (λ p q. refl) r.request request one) holds;
       }
 
   by_call : (client : Client) (P : Request → Answer → Type 0) (earlier : List Moment) (m : Moment) (from : Endpoint) (request : Request) (answer : Answer) (call : Call)

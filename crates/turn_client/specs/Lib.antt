@@ -7,3 +7,4 @@ pub mod Warrants
 pub mod Strangers
 pub mod Lasting
 pub mod Attempts
+pub mod Rounds

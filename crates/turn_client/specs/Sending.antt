@@ -16,12 +16,12 @@ use Rattle.turn_client.specs.Receiving.{asked_by}
 
 -- ---- Requests
 
--- a request as it is written, and why it isn't
-abbrev pub request_text : Client → Request → List ℕ
-request_text client r = text_of client.content (asked_by client r)
+-- a request as it is written, with the further peers that it names, and why it isn't
+abbrev pub request_text : Client → Request → (others : List Endpoint) → List ℕ
+request_text client r others = text_of client.content others (asked_by client r)
 
-abbrev pub request_refusal : Client → Request → Option StunWriteError
-request_refusal client r = refusal_of None client.content (asked_by client r)
+abbrev pub request_refusal : Client → Request → (others : List Endpoint) → Option StunWriteError
+request_refusal client r others = refusal_of None client.content others (asked_by client r)
 
 -- why a text isn't written into a slice: an allocation failed; a refusal; or there is no room
 abbrev pub FailsWith : (refusal : Option StunWriteError) → (text old : List ℕ) → StunWriteError → Type 0
@@ -40,8 +40,8 @@ IsWritten refusal text old new (Err e) = FailsWith refusal text old e × (new �
 -- what a poll with this output writes
 abbrev pub Polls : Client → Output → (old new : List ℕ) → Result (Option ℕ) StunWriteError → Type 0
 Polls client nothing old new result = (result ≡ Ok None) × (new ≡ old)
-Polls client (asks r) old new result =
-    IsWritten (request_refusal client r) (request_text client r) old new result
+Polls client (asks r others) old new result =
+    IsWritten (request_refusal client r others) (request_text client r others) old new result
 Polls client _ old new result = ⊥
 
 -- ---- Data (RFC 8656, sections 11.1 and 12.5)

@@ -45,7 +45,8 @@ pub record IsSuccess (user : User) (r : Request) (d : List ℕ) : Type 0 where
   pub id_is : id_field d ≡ r.id
   pub signed : IsSignedFor user d
 
--- a poll first wrote the request at this moment: `request_text` is its bytes
+-- a poll first wrote the request at this moment, alone or in a request that names several peers:
+-- `request_text` is its bytes
 pub record Writes (client : Client) (r : Request) (earlier : List Moment) (m : Moment) : Type 0 where
   pub polled : m.call ≡ calls polls
   pub sent : Asks r (happened client earlier m)

@@ -13,12 +13,16 @@ ghost use Rattle.turn_client_state.specs.States.{output_at, setup_of};
 ghost use Rattle.turn_client.specs.Clients.{Client};
 ghost use Rattle.turn_client.specs.Runs.{Call, IsBegun, Moment, after_all, event_in, fresh_in, timed_all};
 
+mod attempts;
+mod going;
 mod hearing;
 mod lasting;
 mod serving;
 mod strangers;
 mod warrants;
 
+pub use attempts::attempts_are_few;
+pub use going::{goes_on, polls_come_to_an_end};
 pub use hearing::fit_datagrams_are_taken;
 pub use lasting::{
     client_is_bounded, ends_for_a_reason, granted_lasts, kept_alive, peers_stay, polls_in_time,

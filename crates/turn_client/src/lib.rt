@@ -26,9 +26,10 @@ pub use account::Account;
 pub use attempt::{Attempt, rest_after};
 pub use client::TurnClient;
 pub use laws::{
-    client_is_bounded, data_is_warranted, datagrams_are_warranted, ends_for_a_reason,
-    fit_datagrams_are_taken, granted_lasts, kept_alive, peers_stay, polls_in_time, server_agrees,
-    server_keeps, stays_punctual, strangers_change_nothing, will_reach,
+    attempts_are_few, client_is_bounded, data_is_warranted, datagrams_are_warranted,
+    ends_for_a_reason, fit_datagrams_are_taken, goes_on, granted_lasts, kept_alive, peers_stay,
+    polls_come_to_an_end, polls_in_time, server_agrees, server_keeps, stays_punctual,
+    strangers_change_nothing, will_reach,
 };
 pub use receiving::PeerData;
 pub use turn_client_machine::{End, Peer, Phase};

@@ -3,7 +3,7 @@
 ghost use Rattle.std.specs.Prelude.{◌≡◌, ℕ, List, length, if◌then◌else◌};
 ghost use Rattle.turn_attrs.specs.Channels.{channel_of};
 ghost use Rattle.turn_client_machine.specs.Events.{polls, sends};
-ghost use Rattle.turn_client_state.specs.States.{asked_with, data_by, output_at};
+ghost use Rattle.turn_client_state.specs.States.{asking_with, data_by, output_at};
 ghost use Rattle.turn_client.specs.Clients.{passes};
 ghost use Rattle.turn_client.specs.Sending.{request_refusal, request_text, greatest_of, IsCarried, IsWritten, Polls, Sends, SendsOn};
 
@@ -13,9 +13,8 @@ use stun_endpoints::Endpoint;
 use stun_types::message::{GREATEST_MESSAGE, MessageWriteVec, StunWriteError, TransactionId};
 use stun_types::prelude::*;
 use turn_attrs::{Channel, Head};
-use turn_client_machine::Request;
 use turn_client_messages::{Carrier, write_head};
-use turn_client_state::{Settings, Way};
+use turn_client_state::{Asking, Settings, Way};
 
 /// The length of the longest message that the transport to the server takes.
 fn greatest(settings: &Settings) -> usize
@@ -36,15 +35,16 @@ impl TurnClient {
     fn write(
         &self,
         alloc: Global,
-        request: Request,
+        asking: &Asking,
         out: &mut [u8],
     ) -> Result<Option<usize>, StunWriteError>
-        ensures { IsWritten (request_refusal self.now request) (request_text self.now request) out.old
-            out.new result }
+        ensures { IsWritten (request_refusal self.now asking.now.request asking.now.others.items)
+            (request_text self.now asking.now.request asking.now.others.items) out.old out.new result }
     {
         let mut write = MessageWriteVec::new(alloc);
         let settings = content(&self.settings, &self.account);
-        self.signed(request).write_into(&settings, &mut write)?;
+        let request = self.signed(asking.request);
+        request.write_into(&asking.others, &settings, &mut write)?;
         let message = write.finish();
         if out.len() < message.len() {
             return Err(StunWriteError::TooSmall {
@@ -57,9 +57,9 @@ impl TurnClient {
     }
 
     /// The request that is to be sent now.
-    fn request(&mut self, now: u64, id: TransactionId) -> Option<Request>
+    fn request(&mut self, now: u64, id: TransactionId) -> Option<Asking>
         ensures state { self.new ≡ passes now id polls self.old }
-        ensures request { output_at now id polls self.old.held ≡ asked_with result }
+        ensures request { output_at now id polls self.old.held ≡ asking_with result }
     {
         self.state.poll(now, id.value())
     }
@@ -120,7 +120,7 @@ impl TurnClient {
     /// - `TooLarge { expected: 513, actual }` if the user's name has more than 513 bytes;
     /// - `TooLarge` if the server's list of password algorithms makes it longer than a message can be;
     /// - `TooSmall { expected, actual }` if the request has `expected` bytes, more than `out`: the account,
-    ///   and the server's realm, nonce and password algorithms, decide how many.
+    ///   the server's realm, nonce and password algorithms, and the peers that it names decide how many.
     pub fn poll(
         &mut self,
         alloc: Global,
@@ -132,7 +132,7 @@ impl TurnClient {
         ensures bytes { Polls self.old (output_at now id polls self.old.held) out.old out.new result }
     {
         match self.request(now, id) {
-            Some(request) => self.write(alloc, request, out),
+            Some(asking) => self.write(alloc, &asking, out),
             None => Ok(None),
         }
     }

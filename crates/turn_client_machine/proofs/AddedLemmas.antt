@@ -21,7 +21,7 @@ rests_with state calm in_time ps each = (
   record { allocation = in_time.allocation; peers = soon_each state.clock 0 ps each },
 )
 
-going_rests : (state : State) → Going 0 state → Rests state
+pub going_rests : (state : State) → Going 0 state → Rests state
 going_rests state g = (
   record { allocation = g.phase; free = g.free; time = g.time; peers = each_map (IsKept state.clock 0) (IsCalmPeer state.clock) (λ p k. k.calm) state.peers g.each },
   record { allocation = g.soon; peers = soon_each state.clock 0 state.peers g.each },

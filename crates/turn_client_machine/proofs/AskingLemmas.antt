@@ -3,19 +3,22 @@
 use Rattle.std.proofs.Common.{◌≡◌, ℕ, ◌+◌, ◌<◌, ◌≤◌, inl, inr, ◌⊎◌, Bool, true, false, ◌&&◌, List, [], ◌∷◌, Option, None, Some, refl, sym, ap, subst, ◌∙◌, arith}
 use Rattle.std.specs.Option.{option_map_or}
 use Rattle.std.proofs.lemmas.Bool.{cond_both, and_parts, leb-false, true≢false}
-use Rattle.turn_client_machine.specs.Clients.{seconds, Setup, Kind, Allocate, Refresh, Delete, Permit, Bind, Request, Pending, Phase, Quiet, Asking, Allocated, Closing, Ended, Task, Peer, State, is_allocated, is_active}
-use Rattle.turn_client_machine.specs.Events.{Event, Output, asks}
+use Rattle.turn_client_machine.specs.Clients.{seconds, Setup, Kind, Allocate, Refresh, Delete, Permit, Bind, Request, Pending, Phase, Quiet, Asking, Allocated, Closing, Ended, Task, Peer, State, is_allocated, is_active, Endpoint}
+use Rattle.turn_client_machine.specs.Events.{Event, Output}
 use Rattle.turn_client_machine.specs.Tasks.{kept_task, again_task, request_now, may_send, is_due, is_expired, turned, turn_output}
 use Rattle.turn_client_machine.specs.Responses.{is_allocate, is_delete}
-use Rattle.turn_client_machine.specs.Steps.{Step, keeps, at, kind_in, kind_of, turns_peer, polled, happens, is_next, is_free}
+use Rattle.turn_client_machine.specs.Steps.{Step, keeps, at, kind_in, kind_of, turns_peer, polled, happens, is_next, is_free, own_task, others_at, most_others, takes_along, turned_first}
 use Rattle.turn_client_machine.specs.Runs.{Timed, Happening, run, happening, history, Happened}
-use Rattle.turn_client_machine.specs.Warrants.{Asks, IsRight}
-use Rattle.turn_client_machine.proofs.ListsLemmas.{found, each_pair, AnyOf, any_out, among}
+use Rattle.turn_client_machine.specs.Warrants.{Asks, AsksFor}
+use Rattle.turn_client_machine.proofs.ListsLemmas.{found, each_pair, AnyOf, any_out, among, each_map, some_each_out}
 use Rattle.turn_client_machine.proofs.Keeping.{MainChanges, Main, happens_main}
 use Rattle.turn_client_machine.proofs.Backed.{IsPending, IsBacked, is_main, WasSent}
 use Rattle.turn_client_machine.proofs.BackedLemmas.{IsKept, kind_is, run_kept}
-use Rattle.turn_client_machine.proofs.RightLemmas.{run_right}
+use Rattle.turn_client_machine.proofs.RightLemmas.{run_right, asked_polls}
 use Rattle.turn_client_machine.proofs.ClockLemmas.{happens_clock}
+use Rattle.std.specs.List.{AllByRecursion}
+use Rattle.turn_machine.specs.Lists.{SomeOf}
+use Rattle.turn_client_machine.proofs.JoiningLemmas.{turn_parts, Wanted, own_pending, IfOn, others_each, turned_each}
 
 -- ---- The origin of a request
 
@@ -41,21 +44,39 @@ not_main : (kind : Kind) (p : Peer) → IsForPeer kind p → is_main kind ≡ fa
 not_main kind p (inl is) = ap is_main is
 not_main kind p (inr is) = ap is_main is
 
-pub turn_asks : (setup : Setup) (clock fresh : ℕ) (kind : Kind) (challenge : Option ℕ) (t : Task) (r : Request) (R : Type 0) → (request_now clock fresh kind challenge t ≡ r → R) → turn_output setup clock fresh kind challenge t ≡ asks r → R
-turn_asks setup clock fresh kind challenge t r R f = cond_both (may_send setup t) _ _ (λ (o : Output). o ≡ asks r → R) (λ _ e. f cc) (λ _ e. absurd cc)
+pub turn_asks : (setup : Setup) (clock fresh : ℕ) (kind : Kind) (challenge : Option ℕ) (t : Task) (r : Request) (R : Type 0) → (request_now clock fresh kind challenge t ≡ r → R) → AsksFor r (turn_output setup clock fresh kind challenge [] t) → R
+turn_asks setup clock fresh kind challenge t r R f = cond_both (may_send setup t) _ _ (λ (o : Output). AsksFor r o → R)
+    (λ _ part. elim part [
+      | inl same ↦ f (sym same)
+      | inr along ↦ absurd along.named
+    ]) (λ _ none. absurd none)
 
-polled_origin : (setup : Setup) (fresh : ℕ) (hs : List Happening) (s : State) (r : Request) → IsKept setup hs s → (polled setup fresh s).output ≡ asks r → Origin hs s r
+each_for : (ps : List Peer) → AllByRecursion (λ p. AnyOf (IsForPeer (Permit p.address)) ps) ps
+each_for [] = tt
+each_for (p ∷ ps) = (inl (inl refl), each_map (λ q. AnyOf (IsForPeer (Permit q.address)) ps) (λ q. AnyOf (IsForPeer (Permit q.address)) (p ∷ ps)) (λ q some. inr some) ps (each_for ps))
+
+-- one that is taken along is a peer too
+along_for : (setup : Setup) (fresh : ℕ) (free along : Bool) (s : State) (r : Request) → SomeOf (λ e. r ≡ Wanted s.clock fresh s.challenge e) (others_at setup fresh free along s) → AnyOf (IsForPeer r.kind) s.peers
+along_for setup fresh free along s r some =
+    let For = λ (e : Endpoint). AnyOf (IsForPeer (Permit e)) s.peers in
+    some_each_out For (λ e. r ≡ Wanted s.clock fresh s.challenge e) (AnyOf (IsForPeer r.kind) s.peers) (λ e for is. subst (λ (x : Request). AnyOf (IsForPeer x.kind) s.peers) (sym is) for) (others_at setup fresh free along s)
+    (others_each For setup s.clock fresh s.challenge (most_others setup along) (turned_first setup fresh free along s)
+    (turned_each For along setup s.clock fresh s.challenge (is_next free s.clock) s.peers (each_map (λ p. AnyOf (IsForPeer (Permit p.address)) s.peers) (IfOn For) (λ p for _. for) s.peers (each_for s.peers)))) some
+
+polled_origin : (setup : Setup) (fresh : ℕ) (hs : List Happening) (s : State) (r : Request) → IsKept setup hs s → AsksFor r (polled setup fresh s).output → Origin hs s r
 polled_origin setup fresh hs s r k =
-    cond_both (is_active s.phase && is_due s.clock s.task) _ _ (λ (x : Step). x.output ≡ asks r → Origin hs s r)
-    (λ due. cond_both (is_expired s.clock s.task) _ _ (λ (x : Step). x.output ≡ asks r → Origin hs s r) (λ _ e. absurd cc)
+    cond_both (is_active s.phase && is_due s.clock s.task) _ _ (λ (x : Step). AsksFor r x.output → Origin hs s r)
+    (λ due. cond_both (is_expired s.clock s.task) _ _ (λ (x : Step). AsksFor r x.output → Origin hs s r) (λ _ e. absurd e)
     (λ fit. turn_asks setup s.clock fresh (kind_in s.phase) s.challenge s.task r (Origin hs s r)
     (main_origin hs s fresh s.challenge r s.task.pending (and_parts (is_active s.phase) (is_due s.clock s.task) due).0 fit k.main.pending)))
-    (λ _. cond_both (is_allocated s.phase) _ _ (λ (x : Step). x.output ≡ asks r → Origin hs s r)
-    (λ _. found (λ p. IsBacked setup.server hs p × (IsForPeer r.kind p → AnyOf (IsForPeer r.kind) s.peers)) (is_next (is_free s.peers) s.clock) (λ o. (option_map_or (turns_peer setup fresh (is_free s.peers) s) o (keeps s)).output ≡ asks r → Origin hs s r) (λ e. absurd cc) s.peers
-    (λ p is b. cond_both (is_expired s.clock p.task) _ _ (λ (o : Output). o ≡ asks r → Origin hs s r) (λ _ e. absurd cc)
-    (λ _. turn_asks setup s.clock fresh (kind_of p) s.challenge p.task r (Origin hs s r) (λ e. inr (inr (b.1 (peer_origin hs s.clock fresh p s.challenge r p.task.pending b.0.pending e))))))
+    (λ _. cond_both (is_allocated s.phase) _ _ (λ (x : Step). AsksFor r x.output → Origin hs s r)
+    (λ _. found (λ p. IsBacked setup.server hs p × (IsForPeer r.kind p → AnyOf (IsForPeer r.kind) s.peers)) (is_next (is_free s.peers) s.clock) (λ o. AsksFor r (option_map_or (turns_peer setup fresh (is_free s.peers) s) o (keeps s)).output → Origin hs s r) (λ e. absurd e) s.peers
+    (λ p is b asked. elim (turn_parts setup fresh (is_free s.peers) s p r asked) [
+      | inl e ↦ inr (inr (b.1 (peer_origin hs s.clock fresh p s.challenge r (own_task p).pending (own_pending (IsPending hs p.address p.number) p tt b.0.pending) e)))
+      | inr some ↦ inr (inr (along_for setup fresh (is_free s.peers) (takes_along setup s.clock s.peers p) s r some))
+    ])
     (each_pair (IsBacked setup.server hs) (λ p. IsForPeer r.kind p → AnyOf (IsForPeer r.kind) s.peers) s.peers k.each (among (IsForPeer r.kind) s.peers)))
-    (λ _ e. absurd cc))
+    (λ _ e. absurd e))
 
 -- ---- Which requests were sent
 
@@ -94,11 +115,11 @@ refresh_fit : (begin : ℕ) (r : Request) → r.kind ≡ Refresh → IsFit begin
 refresh_fit begin r is = record { after = λ e. absurd (true≢false (sym e ∙ ap is_allocate is)); soon = λ e. absurd (true≢false (sym e ∙ ap is_allocate is)); lasts = ap is_delete is }
 
 -- what is sent now is fit too
-each_on : (P : Request → Type 0) (h : Happening) (hs : List Happening) → ((r : Request) → h.output ≡ asks r → P r) → EachAsked P hs → EachAsked P (h ∷ hs)
+each_on : (P : Request → Type 0) (h : Happening) (hs : List Happening) → ((r : Request) → AsksFor r h.output → P r) → EachAsked P hs → EachAsked P (h ∷ hs)
 each_on P h hs f each r (inl a) = f r a.asked
 each_on P h hs f each r (inr some) = each r some
 
-asking_on : (h : Happening) (hs : List Happening) (s : State) (clock : ℕ) (phase : Phase) → s.phase ≡ phase → clock ≤ s.clock → ((r : Request) → h.output ≡ asks r → Origin hs s r) → IsAsking hs clock phase s.task s.expires_at → IsAsking (h ∷ hs) s.clock phase s.task s.expires_at
+asking_on : (h : Happening) (hs : List Happening) (s : State) (clock : ℕ) (phase : Phase) → s.phase ≡ phase → clock ≤ s.clock → ((r : Request) → AsksFor r h.output → Origin hs s r) → IsAsking hs clock phase s.task s.expires_at → IsAsking (h ∷ hs) s.clock phase s.task s.expires_at
 asking_on h hs s clock Quiet is le from a = each_on (λ (r : Request). is_main r.kind ≡ false) h hs
     (λ r e. elim (from r e) [
       | inl sent ↦ a r sent
@@ -192,13 +213,13 @@ asking_main setup fresh hs s event = record {
 }
 
 -- each request that is sent has one of these origins
-pub run_origin : (setup : Setup) (earlier : List Timed) (timed : Timed) (r : Request) → (happening setup (run setup earlier) timed).output ≡ asks r → Origin (history setup earlier) (at timed.now (run setup earlier)) r
+pub run_origin : (setup : Setup) (earlier : List Timed) (timed : Timed) (r : Request) → AsksFor r (happening setup (run setup earlier) timed).output → Origin (history setup earlier) (at timed.now (run setup earlier)) r
 run_origin setup earlier timed r e =
     let k = run_kept setup earlier in
     let s = at timed.now (run setup earlier) in
     let h = happening setup (run setup earlier) timed in
-    let right = subst (IsRight setup (history setup earlier) h.moment h.event) e (run_right setup earlier timed) in
-    polled_origin setup timed.fresh (history setup earlier) s r (record { main = k.main; each = k.each }) (ap (λ (v : Event). (happens setup timed.fresh s v).output) (sym right.0) ∙ e)
+    let poll = asked_polls setup (history setup earlier) h.moment h.event h.output r (run_right setup earlier timed) e in
+    polled_origin setup timed.fresh (history setup earlier) s r (record { main = k.main; each = k.each }) (subst (λ (v : Event). AsksFor r (happens setup timed.fresh s v).output) poll e)
 
 run_asking : (setup : Setup) (events : List Timed) → Main (IsAsking (history setup events) (run setup events).clock) (run setup events)
 run_asking setup [] = λ r some. absurd some

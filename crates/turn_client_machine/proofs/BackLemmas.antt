@@ -25,6 +25,7 @@ use Rattle.turn_client_machine.proofs.ServerOwn.{known_at, arrives_by}
 use Rattle.turn_client_machine.proofs.ServerEnds.{given_one}
 use Rattle.turn_client_machine.proofs.RelayedLemmas.{Back}
 use Rattle.turn_client_machine.proofs.PunctualLemmas.{punctual_reach, punctual_permitted}
+use Rattle.turn_client_machine.proofs.Backed.{sends_asks}
 
 -- ---- There is one socket
 
@@ -66,16 +67,16 @@ record Sent (hs : List Happening) (number : ℕ) (peer : Endpoint) : Type 0 wher
   sent : Happened (Asks r) hs
   kind : r.kind ≡ Bind number peer
 
-bind_of : (wanted : Option ℕ) (id number : ℕ) (peer : Endpoint) (want : Want) (kind : Kind) → s_bind number peer ≡ request_of wanted id want kind → kind ≡ Bind number peer
-bind_of wanted id number peer want Allocate is = absurd cc
-bind_of wanted id number peer want Refresh is = absurd cc
-bind_of wanted id number peer want Delete is = absurd cc
-bind_of wanted id number peer want (Permit other) is = absurd cc
-bind_of wanted id number peer want (Bind n other) is = cc
+bind_of : (wanted : Option ℕ) (id number : ℕ) (peer : Endpoint) (want : Want) (others : List Endpoint) (kind : Kind) → s_bind number peer ≡ request_of wanted id want others kind → kind ≡ Bind number peer
+bind_of wanted id number peer want others Allocate is = absurd cc
+bind_of wanted id number peer want others Refresh is = absurd cc
+bind_of wanted id number peer want others Delete is = absurd cc
+bind_of wanted id number peer want others (Permit other) is = absurd cc
+bind_of wanted id number peer want others (Bind n other) is = cc
 
 asked_by : (shown : ℕ → ℕ) (wanted : Option ℕ) (hs : List Happening) (there : List ServerHappening) (tuple : FiveTuple) (user number : ℕ) (peer : Endpoint) → IsAlone shown wanted hs there tuple user → SomeOf (λ h. h.event ≡ s_asks tuple user (s_bind number peer)) there → Sent hs number peer
 asked_by shown wanted hs [] tuple user number peer alone some = absurd some
-asked_by shown wanted hs (h ∷ there) tuple user number peer alone (inl asked) = let o = alone.0 (s_bind number peer) asked in record { r = o.r; sent = o.sent; kind = bind_of wanted o.r.id number peer o.want o.r.kind o.same }
+asked_by shown wanted hs (h ∷ there) tuple user number peer alone (inl asked) = let o = alone.0 (s_bind number peer) asked in record { r = o.r; sent = sends_asks o.r o.others hs o.sent; kind = bind_of wanted o.r.id number peer o.want o.others o.r.kind o.same }
 asked_by shown wanted hs (h ∷ there) tuple user number peer alone (inr some) = asked_by shown wanted hs there tuple user number peer alone.1 some
 
 -- ---- The client shows it

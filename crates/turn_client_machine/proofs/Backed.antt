@@ -1,9 +1,9 @@
 -- What is kept is backed by what has happened.
-use Rattle.std.proofs.Common.{◌≡◌, ℕ, ◌+◌, ◌<◌, inl, inr, ◌⊎◌, Bool, true, false, List, [], ◌∷◌, Option, None, Some}
+use Rattle.std.proofs.Common.{◌≡◌, ℕ, ◌+◌, ◌<◌, inl, inr, ◌⊎◌, Bool, true, false, List, [], ◌∷◌, Option, None, Some, refl, sym, subst}
 use Rattle.turn_client_machine.specs.Clients.{Ip, Endpoint, seconds, Kind, Allocate, Refresh, Delete, Permit, Bind, Request, Pending, Phase, Task, Peer}
 use Rattle.turn_client_machine.specs.Events.{Answer, Done}
 use Rattle.turn_client_machine.specs.Runs.{Happening, Happened}
-use Rattle.turn_client_machine.specs.Warrants.{Asks, Confirmed, lifetime_of, names, NamesPeer}
+use Rattle.turn_client_machine.specs.Warrants.{Asks, AsksFor, Sends, Confirmed, lifetime_of, names, NamesPeer}
 
 -- granted until a moment
 pub record LastsUntil (expires_at : ℕ) (r : Request) (answer : Answer) : Type 0 where
@@ -72,6 +72,12 @@ sent_on h hs (Some q) is = (inr is.0, is.1)
 
 pub main_on : (server : Endpoint) (h : Happening) (hs : List Happening) (phase : Phase) (t : Task) (expires_at : ℕ) → IsBackedMain server hs phase t expires_at → IsBackedMain server (h ∷ hs) phase t expires_at
 main_on server h hs phase t expires_at is = record { lasts = λ some. inr (is.lasts some); pending = sent_on h hs t.pending is.pending }
+
+-- a whole request asks for itself
+pub sends_asks : (r : Request) (others : List Endpoint) (hs : List Happening) → Happened (Sends r others) hs → Happened (Asks r) hs
+sends_asks r others [] some = absurd some
+sends_asks r others (h ∷ hs) (inl s) = inl (record { asked = subst (AsksFor r) (sym s.asked) (inl refl); then = s.then })
+sends_asks r others (h ∷ hs) (inr some) = inr (sends_asks r others hs some)
 
 pub confirmed_map : (server : Endpoint) (P Q : Request → Answer → Type 0) → ((r : Request) (a : Answer) → P r a → Q r a) → (hs : List Happening) → Confirmed server P hs → Confirmed server Q hs
 confirmed_map server P Q f [] some = absurd some

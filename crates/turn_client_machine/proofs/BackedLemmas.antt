@@ -3,17 +3,18 @@ use Rattle.std.proofs.Common.{◌≡◌, ℕ, ◌+◌, inl, inr, ◌⊎◌, Bool
 use Rattle.std.specs.List.{AllByRecursion}
 use Rattle.std.specs.Option.{option_map_or}
 use Rattle.std.specs.Prelude.{◌==◌}
-use Rattle.std.proofs.lemmas.Bool.{cond_both, cond-true, cond-false}
+use Rattle.std.proofs.lemmas.Bool.{cond_both, cond-true}
 use Rattle.stun_endpoints.proofs.AddressesLemmas.{ip_is_itself}
 use Rattle.turn_client_machine.specs.Clients.{Endpoint, seconds, Setup, Kind, Allocate, Refresh, Delete, Permit, Bind, Request, Pending, Phase, Quiet, Asking, Allocated, Closing, Ended, Task, Peer, State}
 use Rattle.turn_client_machine.specs.Events.{Answer, Opened, Extended, Done, Event, permits, binds, responds, asks, nothing}
 use Rattle.turn_client_machine.specs.Tasks.{may_retry, is_expired, request_now, may_send, turned, turn_output}
 use Rattle.turn_client_machine.specs.Responses.{asks_instead, is_allocate, restarted, granted_by, given_up, noted}
-use Rattle.turn_client_machine.specs.Steps.{at, wanting, kind_in, kind_of, turned_of, output_of, happens}
+use Rattle.turn_client_machine.specs.Steps.{at, wanting, kind_in, kind_of, own_task, turned_of, happens}
 use Rattle.turn_client_machine.specs.Runs.{Timed, Happening, run, happening, history, Happened}
-use Rattle.turn_client_machine.specs.Warrants.{Asks, Confirmed, lifetime_of, names, NamesPeer}
+use Rattle.turn_client_machine.specs.Warrants.{Asks, AsksFor, Confirmed, lifetime_of, names, NamesPeer}
 use Rattle.turn_client_machine.proofs.ListsLemmas.{each_map}
-use Rattle.turn_client_machine.proofs.Keeping.{Genuine, PeerChanges, happens_each, MainChanges, Main, happens_main}
+use Rattle.turn_client_machine.proofs.JoiningLemmas.{own_pending}
+use Rattle.turn_client_machine.proofs.Keeping.{Genuine, IsAskedFor, PeerChanges, happens_each, MainChanges, Main, happens_main}
 use Rattle.turn_client_machine.proofs.Backed.{LastsUntil, PermitsUntil, BindsUntil, PeerSent, IsPending, IsBacked, is_main, WasSent, IsBackedMain, backed_on, main_on}
 
 -- what happens now
@@ -27,8 +28,7 @@ not_now : (setup : Setup) (fresh : ℕ) (state : State) (event : Event) (h : Hap
     → Asks r h → ⊥
 not_now setup fresh state event h from id authentic answer r now is a =
     let none : h.output ≡ nothing = now.output ∙ ap (λ (e : Event). (happens setup fresh state e).output) is in
-    let some : h.output ≡ asks r = a.asked in
-    absurd cc
+    subst (AsksFor r) none a.asked
 
 sent_before : (setup : Setup) (fresh : ℕ) (state : State) (event : Event) (h : Happening) (hs : List Happening) (from : Endpoint) (id : ℕ) (authentic : Bool) (answer : Answer) (r : Request) → IsNow setup fresh state event h → event ≡ responds from id authentic answer
     → Happened (Asks r) (h ∷ hs) → Happened (Asks r) hs
@@ -100,25 +100,23 @@ granted_backed_of setup fresh state event h hs id p (Some q) now g is pending b 
 
 -- the request that is sent now was sent
 sent_now : (setup : Setup) (clock fresh : ℕ) (h : Happening) (hs : List Happening) (address : Endpoint) (number : ℕ) (kind : Kind) (challenge : Option ℕ) (o : Option Pending) → h.moment ≡ clock → (kind ≡ Permit address) ⊎ (kind ≡ Bind number address)
-    → h.output ≡ asks (option_map_or (λ (q : Pending). q.request) o (record { id = fresh; kind = kind; challenge = challenge; since = clock }))
+    → AsksFor (option_map_or (λ (q : Pending). q.request) o (record { id = fresh; kind = kind; challenge = challenge; since = clock })) h.output
     → IsPending (h ∷ hs) address number o → PeerSent (h ∷ hs) address number (option_map_or (λ (q : Pending). q.request) o (record { id = fresh; kind = kind; challenge = challenge; since = clock }))
 sent_now setup clock fresh h hs address number kind challenge None moment is out pending = record { sent = inl (record { asked = out; then = sym moment }); kind = is }
 sent_now setup clock fresh h hs address number kind challenge (Some q) moment is out pending = pending
 
-turned_backed : (setup : Setup) (fresh : ℕ) (state : State) (h : Happening) (hs : List Happening) (p : Peer) → h.moment ≡ state.clock → h.output ≡ output_of setup state.clock fresh state.challenge p → IsBacked setup.server (h ∷ hs) p
-    → IsBacked setup.server (h ∷ hs) (turned_of setup state.clock fresh state.challenge p)
-turned_backed setup fresh state h hs p moment out b =
+turned_backed : (along : Bool) (setup : Setup) (fresh : ℕ) (state : State) (h : Happening) (hs : List Happening) (p : Peer) → h.moment ≡ state.clock → IsAskedFor setup state.clock fresh state.challenge p h.output → IsBacked setup.server (h ∷ hs) p
+    → IsBacked setup.server (h ∷ hs) (turned_of along setup state.clock fresh state.challenge p)
+turned_backed along setup fresh state h hs p moment out b =
     cond_both (is_expired state.clock p.task) _ _ (IsBacked setup.server (h ∷ hs)) (λ _. given_up_backed setup.server (h ∷ hs) 0 p b)
-    (λ fit. cond_both (may_send setup p.task) _ _ (λ (t : Task). IsBacked setup.server (h ∷ hs) (record p { task = t }))
+    (λ fit. let pending = own_pending (IsPending (h ∷ hs) p.address p.number) p tt b.pending in cond_both (may_send setup (own_task p)) _ _ (λ (t : Task). IsBacked setup.server (h ∷ hs) (record p { task = t; shared = along }))
     (λ may. record {
       named = b.named;
       permitted = b.permitted;
       bound = b.bound;
-      pending = sent_now setup state.clock fresh h hs p.address p.number (kind_of p) state.challenge p.task.pending moment (kind_is p)
-          (out ∙ (cond-false (is_expired state.clock p.task) nothing (turn_output setup state.clock fresh (kind_of p) state.challenge p.task) fit
-          ∙ cond-true (may_send setup p.task) (asks (request_now state.clock fresh (kind_of p) state.challenge p.task)) nothing may)) b.pending;
+      pending = sent_now setup state.clock fresh h hs p.address p.number (kind_of p) state.challenge (own_task p).pending moment (kind_is p) (out fit may) pending;
     })
-    (λ _. record { named = b.named; permitted = b.permitted; bound = b.bound; pending = b.pending }))
+    (λ _. record { named = b.named; permitted = b.permitted; bound = b.bound; pending = pending }))
 
 new_named : (address : Endpoint) (event : Event) (h : Happening) → h.event ≡ event → (event ≡ permits address) ⊎ (event ≡ binds address) → NamesPeer address h
 new_named address event h is (inl named) = inl (is ∙ named)
@@ -138,7 +136,7 @@ backed_changes setup fresh state event h hs now = record {
   challenges_it = λ p is _ _ b. cond_both (may_retry setup state.challenge is.code p.task) _ _ (IsBacked setup.server (h ∷ hs))
       (λ _. record { named = b.named; permitted = b.permitted; bound = b.bound; pending = tt }) (λ _. given_up_backed setup.server (h ∷ hs) is.code p b);
   violates_it = λ p is _ _ b. let same : IsBacked setup.server (h ∷ hs) (noted p) = record { named = b.named; permitted = b.permitted; bound = b.bound; pending = b.pending } in cond_both setup.is_reliable _ _ (IsBacked setup.server (h ∷ hs)) (λ _. given_up_backed setup.server (h ∷ hs) 0 (noted p) same) (λ _. same);
-  turns_it = λ p is _ out b. turned_backed setup fresh state h hs p now.moment (now.output ∙ (ap (λ (e : Event). (happens setup fresh state e).output) is ∙ out)) b;
+  turns_it = λ p along is _ out b. turned_backed along setup fresh state h hs p now.moment (subst (IsAskedFor setup state.clock fresh state.challenge p) (sym (now.output ∙ ap (λ (e : Event). (happens setup fresh state e).output) is)) out) b;
 }
 
 -- ---- The allocation
@@ -161,16 +159,16 @@ main_kind (Closing why) = refl
 main_kind (Ended why) = refl
 
 main_sent : (clock fresh : ℕ) (h : Happening) (hs : List Happening) (kind : Kind) (challenge : Option ℕ) (o : Option Pending) → h.moment ≡ clock → is_main kind ≡ true
-    → h.output ≡ asks (option_map_or (λ (q : Pending). q.request) o (record { id = fresh; kind = kind; challenge = challenge; since = clock }))
+    → AsksFor (option_map_or (λ (q : Pending). q.request) o (record { id = fresh; kind = kind; challenge = challenge; since = clock })) h.output
     → WasSent (h ∷ hs) o → WasSent (h ∷ hs) (Some (record { request = option_map_or (λ (q : Pending). q.request) o (record { id = fresh; kind = kind; challenge = challenge; since = clock }); sends = 0 }))
 main_sent clock fresh h hs kind challenge None moment main out sent = (inl (record { asked = out; then = sym moment }), main)
 main_sent clock fresh h hs kind challenge (Some q) moment main out sent = sent
 
-main_turned : (setup : Setup) (clock fresh : ℕ) (h : Happening) (hs : List Happening) (kind : Kind) (challenge : Option ℕ) (phase : Phase) (t : Task) (expires_at : ℕ) → h.moment ≡ clock → is_main kind ≡ true → h.output ≡ turn_output setup clock fresh kind challenge t
+main_turned : (setup : Setup) (clock fresh : ℕ) (h : Happening) (hs : List Happening) (kind : Kind) (challenge : Option ℕ) (phase : Phase) (t : Task) (expires_at : ℕ) → h.moment ≡ clock → is_main kind ≡ true → h.output ≡ turn_output setup clock fresh kind challenge [] t
     → IsBackedMain setup.server (h ∷ hs) phase t expires_at → IsBackedMain setup.server (h ∷ hs) phase (turned setup clock fresh kind challenge t) expires_at
 main_turned setup clock fresh h hs kind challenge phase t expires_at moment main out b =
     cond_both (may_send setup t) _ _ (λ (s : Task). IsBackedMain setup.server (h ∷ hs) phase s expires_at)
-    (λ may. record { lasts = b.lasts; pending = main_sent clock fresh h hs kind challenge t.pending moment main (out ∙ cond-true (may_send setup t) (asks (request_now clock fresh kind challenge t)) nothing may) b.pending })
+    (λ may. record { lasts = b.lasts; pending = main_sent clock fresh h hs kind challenge t.pending moment main (subst (AsksFor (request_now clock fresh kind challenge t)) (sym (out ∙ cond-true (may_send setup t) (asks (request_now clock fresh kind challenge t) []) nothing may)) (inl refl)) b.pending })
     (λ _. record { lasts = b.lasts; pending = b.pending })
 
 backed_main : (setup : Setup) (fresh : ℕ) (state : State) (event : Event) (h : Happening) (hs : List Happening) → IsNow setup fresh state event h → MainChanges (IsBackedMain setup.server (h ∷ hs)) setup fresh state event

@@ -1,5 +1,5 @@
 -- What is of no use is deleted, and then the client ends.
-use Rattle.std.proofs.Common.{◌≡◌, ℕ, ◌+◌, ◌<◌, inl, inr, ◌⊎◌, true, false, ◌&&◌, Option, Some, refl, sym, ap, subst, ◌∙◌, arith, eq-eqb, leb-true}
+use Rattle.std.proofs.Common.{◌≡◌, ℕ, ◌+◌, ◌<◌, inl, inr, ◌⊎◌, true, false, ◌&&◌, Option, Some, refl, sym, ap, subst, ◌∙◌, arith, eq-eqb, leb-true, []}
 use Rattle.std.specs.Option.{option_map_or}
 use Rattle.std.specs.Prelude.{◌==◌, nat_le}
 use Rattle.std.proofs.lemmas.Bool.{cond-true, cond-false, cases_Bool, and_from, and_left, and_right, le-leb, ne_eqb}
@@ -56,15 +56,15 @@ useless_refreshed setup state now fresh lifetime q active pending kind short =
     ∙ cond-false (is_long lifetime) (extended q.request lifetime st) (deletes Useless st) (not_long 80 lifetime short)))) (is_deleting st)
 
 pub deleted : (setup : Setup) (state : State) (now fresh later other lifetime code : ℕ) (why : End) → 0 < setup.most_sends → state.phase ≡ Closing why → IsTurn (at now state).clock state.task
-    → ((step setup state now fresh polls).output ≡ asks (new_request (at now state) fresh Delete))
+    → ((step setup state now fresh polls).output ≡ asks (new_request (at now state) fresh Delete) [])
     × (((step setup (step setup state now fresh polls).state later other (responds setup.server fresh true (Extended lifetime))).state.phase ≡ Ended why)
     × ((step setup (step setup state now fresh polls).state later other (responds setup.server fresh true (Refused code))).state.phase ≡ Ended why))
 deleted setup state now fresh later other lifetime code why some phase turn =
     let st = at now state in
     let r = new_request st fresh Delete in
     let active : is_active st.phase ≡ true = ap is_active phase in
-    let asked : polled setup fresh st ≡ record { state = record st { task = sent_task setup st.clock r st.task }; output = asks r }
-    = main_asked setup fresh st some active turn ∙ ap (λ (k : Kind). record { state = record st { task = sent_task setup st.clock (new_request st fresh k) st.task }; output = asks (new_request st fresh k) }) (ap kind_in phase) in (
+    let asked : polled setup fresh st ≡ record { state = record st { task = sent_task setup st.clock r st.task }; output = asks r [] }
+    = main_asked setup fresh st some active turn ∙ ap (λ (k : Kind). record { state = record st { task = sent_task setup st.clock (new_request st fresh k) st.task }; output = asks (new_request st fresh k) [] }) (ap kind_in phase) in (
       ap (λ (s : Step). s.output) asked,
       (
         ap (λ (s : Step). (step setup s.state later other (responds setup.server fresh true (Extended lifetime))).state.phase) asked

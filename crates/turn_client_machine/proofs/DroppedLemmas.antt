@@ -10,16 +10,17 @@ use Rattle.turn_client_machine.specs.Clients.{Endpoint, is_ip, is_endpoint, seco
 use Rattle.turn_client_machine.specs.Events.{Event, allocates, permits, binds, drops, sends, closes, responds, gives, gives_on, strays, polls, send_to, send_on, shows, nothing}
 use Rattle.turn_client_machine.specs.Tasks.{request_now, may_send, is_due, is_expired, turn_output}
 use Rattle.turn_client_machine.specs.Responses.{changed_first, granted, turned_down, challenged, violated_by}
-use Rattle.turn_client_machine.specs.Steps.{Step, turned_of, wanting, keeps, at, is_ready, sent_by, dropped, is_listed, kind_in, kind_of, is_next, is_free, turns_peer, polled, happens}
+use Rattle.turn_client_machine.specs.Steps.{Step, turned_of, wanting, keeps, at, is_ready, sent_by, dropped, is_listed, kind_in, kind_of, is_next, is_free, turns_peer, polled, happens, takes_along, others_at, own_task, most_others, turned_first}
 use Rattle.turn_client_machine.specs.Dropping.{IsGone, IsGoneAt, IsUnnamed, is_for, is_shared, IsQuiet}
 use Rattle.turn_client_machine.specs.Runs.{Timed, Happening, run, happening, history}
-use Rattle.turn_client_machine.proofs.ListsLemmas.{found, each_pair}
+use Rattle.turn_client_machine.proofs.ListsLemmas.{found, each_pair, each_map}
 use Rattle.turn_client_machine.proofs.Keeping.{PeerChanges, happens_each}
 use Rattle.turn_client_machine.proofs.Backed.{IsPending, IsBacked, is_main, WasSent}
 use Rattle.turn_client_machine.proofs.BackedLemmas.{IsKept, kind_is, main_kind, run_kept}
 use Rattle.turn_client_machine.proofs.NumbersLemmas.{IsSame, granted_same, turned_down_same, challenged_same, violated_same, turned_same, wanting_same}
 use Rattle.turn_client_machine.proofs.StayingLemmas.{same_endpoint}
 use Rattle.turn_client_machine.proofs.TidyLemmas.{AreOnce, run_once, IsTidy, run_tidy, awaits_none, next_on}
+use Rattle.turn_client_machine.proofs.JoiningLemmas.{own_pending, others_each, IfOn, turned_each}
 
 -- ---- It is dropped
 
@@ -62,8 +63,8 @@ gone_changes address setup fresh state event not_permitted not_bound = record {
   turns_down = λ p id code genuine awaited found gone here. awaits_none id p awaited (gone (same_here address p (turned_down state.clock code p) (turned_down_same state.clock code p) here)).free;
   challenges_it = λ p is awaited found gone here. awaits_none is.id p awaited (gone (same_here address p (challenged setup state.challenge state.clock is.code p) (challenged_same setup state.challenge state.clock is.code p) here)).free;
   violates_it = λ p is awaited found gone here. awaits_none is.id p awaited (gone (same_here address p (violated_by setup p) (violated_same setup p) here)).free;
-  turns_it = λ p is next out gone here.
-      absurd (true≢false (sym (gone (same_here address p (turned_of setup state.clock fresh state.challenge p) (turned_same setup state.clock fresh state.challenge p) here)).over ∙ next_on (is_free state.peers) state.clock p next));
+  turns_it = λ p along is on out gone here.
+      absurd (true≢false (sym (gone (same_here address p (turned_of along setup state.clock fresh state.challenge p) (turned_same along setup state.clock fresh state.challenge p) here)).over ∙ on));
 }
 
 pub run_gone : (setup : Setup) (since earlier : List Timed) (drop : Timed) (address : Endpoint) → drop.event ≡ drops address → AllByRecursion (IsUnnamed address) since → AllByRecursion (IsGoneAt address) (run setup (since ++ drop ∷ earlier)).peers
@@ -148,21 +149,24 @@ peer_quiet : (address : Endpoint) (hs : List Happening) (clock fresh : ℕ) (p :
 peer_quiet address hs clock fresh p challenge None isnt pending = for_other address p (kind_of p) isnt (kind_is p)
 peer_quiet address hs clock fresh p challenge (Some q) isnt pending = for_other address p q.request.kind isnt pending.kind
 
-turn_quiet : (address : Endpoint) (shared : Bool) (event : Event) (setup : Setup) (clock fresh : ℕ) (kind : Kind) (challenge : Option ℕ) (t : Task) → is_for address (request_now clock fresh kind challenge t).kind ≡ false
-    → IsQuiet address shared event (turn_output setup clock fresh kind challenge t)
-turn_quiet address shared event setup clock fresh kind challenge t isnt = cond_both (may_send setup t) _ _ (IsQuiet address shared event) (λ _. isnt) (λ _. tt)
+turn_quiet : (address : Endpoint) (shared : Bool) (event : Event) (setup : Setup) (clock fresh : ℕ) (kind : Kind) (challenge : Option ℕ) (others : List Endpoint) (t : Task) → is_for address (request_now clock fresh kind challenge t).kind ≡ false
+    → AllByRecursion (λ other. is_endpoint address other ≡ false) others → IsQuiet address shared event (turn_output setup clock fresh kind challenge others t)
+turn_quiet address shared event setup clock fresh kind challenge others t isnt none = cond_both (may_send setup t) _ _ (IsQuiet address shared event) (λ _. (isnt, none)) (λ _. tt)
 
 polled_quiet : (address : Endpoint) (shared : Bool) (setup : Setup) (fresh : ℕ) (hs : List Happening) (s : State) → IsKept setup hs s → AllByRecursion (IsGoneAt address) s.peers → IsQuiet address shared polls (polled setup fresh s).output
 polled_quiet address shared setup fresh hs s k gone =
     cond_both (is_active s.phase && is_due s.clock s.task) _ _ (λ (x : Step). IsQuiet address shared polls x.output)
     (λ due. cond_both (is_expired s.clock s.task) _ _ (λ (x : Step). IsQuiet address shared polls x.output) (λ _. tt)
-    (λ fit. turn_quiet address shared polls setup s.clock fresh (kind_in s.phase) s.challenge s.task (main_quiet address shared polls setup hs s.clock fresh (kind_in s.phase) s.challenge s.task.pending (main_kind s.phase) k.main.pending)))
+    (λ fit. turn_quiet address shared polls setup s.clock fresh (kind_in s.phase) s.challenge [] s.task (main_quiet address shared polls setup hs s.clock fresh (kind_in s.phase) s.challenge s.task.pending (main_kind s.phase) k.main.pending) tt))
     (λ _. cond_both (is_allocated s.phase) _ _ (λ (x : Step). IsQuiet address shared polls x.output)
     (λ _. found (λ p. IsBacked setup.server hs p × IsGoneAt address p) (is_next (is_free s.peers) s.clock) (λ o. IsQuiet address shared polls (option_map_or (turns_peer setup fresh (is_free s.peers) s) o (keeps s)).output) tt s.peers
     (λ p next b. cond_both (is_expired s.clock p.task) _ _ (IsQuiet address shared polls) (λ _. tt)
-    (λ _. turn_quiet address shared polls setup s.clock fresh (kind_of p) s.challenge p.task
-    (peer_quiet address hs s.clock fresh p s.challenge p.task.pending
-    (false_from_ne_true (is_peer address p) (λ here. true≢false (sym (b.1 here).over ∙ next_on (is_free s.peers) s.clock p next))) b.0.pending)))
+    (λ _. let along = takes_along setup s.clock s.peers p in turn_quiet address shared polls setup s.clock fresh (kind_of p) s.challenge (others_at setup fresh (is_free s.peers) along s) (own_task p)
+    (peer_quiet address hs s.clock fresh p s.challenge (own_task p).pending
+    (false_from_ne_true (is_peer address p) (λ here. true≢false (sym (b.1 here).over ∙ next_on (is_free s.peers) s.clock p next))) (own_pending (IsPending hs p.address p.number) p tt b.0.pending))
+    (others_each (λ other. is_endpoint address other ≡ false) setup s.clock fresh s.challenge (most_others setup along) (turned_first setup fresh (is_free s.peers) along s)
+    (turned_each (λ other. is_endpoint address other ≡ false) along setup s.clock fresh s.challenge (is_next (is_free s.peers) s.clock) s.peers
+    (each_map (IsGoneAt address) (IfOn (λ other. is_endpoint address other ≡ false)) (λ q gone_it on. false_from_ne_true (is_peer address q) (λ here. true≢false (sym (gone_it here).over ∙ on))) s.peers gone)))))
     (each_pair (IsBacked setup.server hs) (IsGoneAt address) s.peers k.each gone))
     (λ _. tt))
 

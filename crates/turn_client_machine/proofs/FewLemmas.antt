@@ -7,12 +7,13 @@ use Rattle.std.proofs.lemmas.Bool.{cond_both, and_parts}
 use Rattle.turn_client_machine.specs.Clients.{Endpoint, is_endpoint, Setup, Kind, Allocate, Refresh, Delete, Permit, Bind, Request, Pending, Phase, Quiet, Asking, Allocated, Closing, Ended, Task, Peer, State, is_allocated, is_active, is_peer, is_rested, Useless}
 use Rattle.turn_client_machine.specs.Events.{Answer, Opened, Extended, Done, Refused, Challenged, Redirected, Violated, Event, allocates, permits, binds, drops, sends, closes, responds, gives, gives_on, strays, polls}
 use Rattle.turn_client_machine.specs.Tasks.{again_task, awaits, may_retry, is_due, is_expired, may_send, sends_so_far, turned}
-use Rattle.turn_client_machine.specs.Responses.{asks_instead, changed_first, is_allocate, opened, extended, extended_by, answered, restarted, reopened, granted_by, granted, given_up, turned_down, challenged, awaits_of, answered_peer, deletes, is_long, is_useful, violated_by}
-use Rattle.turn_client_machine.specs.Steps.{Step, keeps, at, covers, can_name, replaced, with_new, wanting, dropped, is_listed, begins, closes_from, kind_of, turned_of, turns_peer, happens, is_next, is_free}
+use Rattle.turn_client_machine.specs.Responses.{asks_instead, changed_first, is_allocate, opened, extended, extended_by, answered, restarted, reopened, granted_by, granted, given_up, turned_down, challenged, awaits_of, answered_peer, deletes, is_long, is_useful, violated_by, changed_each}
+use Rattle.turn_client_machine.specs.Steps.{Step, keeps, at, covers, can_name, replaced, with_new, wanting, dropped, is_listed, begins, closes_from, kind_of, turned_of, turns_peer, happens, is_next, is_free, own_task, takes_along, is_fit, most_others, turned_first}
 use Rattle.turn_client_machine.specs.Runs.{Timed, run}
 use Rattle.turn_client_machine.specs.Bounds.{IsFew, IsWithin}
-use Rattle.turn_client_machine.proofs.NumbersLemmas.{room_left}
+use Rattle.turn_client_machine.proofs.NumbersLemmas.{room_left, joined_keeps}
 use Rattle.turn_client_machine.proofs.Keeping.{PeerChanges, happens_each, MainChanges, happens_main}
+use Rattle.turn_client_machine.proofs.JoiningLemmas.{own_pending}
 
 abbrev FewOf : Setup → Peer → Type 0
 FewOf setup p = IsFew setup p.task
@@ -50,6 +51,9 @@ wanting_few : (setup : Setup) (clock : ℕ) (p : Peer) → FewOf setup p → Few
 wanting_few setup clock p f = cond_both p.over _ _ (FewOf setup) (λ _. record { sends = zero-le; retries = zero-le })
     (λ _. cond_both p.wants _ _ (FewOf setup) (λ _. f) (λ _. record { sends = zero-le; retries = zero-le }))
 
+own_few : (setup : Setup) (p : Peer) → FewOf setup p → IsFew setup (own_task p)
+own_few setup p f = record { sends = own_pending (λ o. option_map_or (λ (q : Pending). q.sends) o 0 ≤ setup.most_sends) p zero-le f.sends; retries = f.retries }
+
 few_changes : (setup : Setup) (fresh : ℕ) (state : State) (event : Event) → PeerChanges (FewOf setup) setup fresh state event
 few_changes setup fresh state event = record {
   new = λ wants address peers _ _. record { sends = zero-le; retries = zero-le };
@@ -62,7 +66,7 @@ few_changes setup fresh state event = record {
   turns_down = λ p id code genuine _ _ f. cond_both (asks_instead code p) _ _ (FewOf setup) (λ _. record { sends = zero-le; retries = f.retries }) (λ _. given_up_few setup code p f);
   challenges_it = λ p is _ _ f. cond_both (may_retry setup state.challenge is.code p.task) _ _ (FewOf setup) (λ may. again_few setup state.clock state.challenge is.code p.task may) (λ _. given_up_few setup is.code p f);
   violates_it = λ p is _ _ f. cond_both setup.is_reliable _ _ (FewOf setup) (λ _. given_up_few setup 0 p f) (λ _. f);
-  turns_it = λ p is _ out f. cond_both (is_expired state.clock p.task) _ _ (FewOf setup) (λ _. given_up_few setup 0 p f) (λ _. turned_few setup state.clock fresh (kind_of p) state.challenge p.task f);
+  turns_it = λ p along is _ out f. cond_both (is_expired state.clock p.task) _ _ (FewOf setup) (λ _. given_up_few setup 0 p f) (λ _. turned_few setup state.clock fresh (kind_of p) state.challenge (own_task p) (own_few setup p f));
 }
 
 few_main : (setup : Setup) (fresh : ℕ) (state : State) (event : Event) → MainChanges (FewTask setup) setup fresh state event
@@ -94,6 +98,13 @@ Few most peers = length peers ≤ most
 changed_few : (most : ℕ) (test : Peer → Bool) (change : Peer → Peer) (peers : List Peer) → Few most peers → Few most (changed_first test change peers)
 changed_few most test change peers few = subst (λ (n : ℕ). n ≤ most) (sym (length-changed_first test change peers)) few
 
+length-changed_each : {X : Type 0} (test : X → Bool) (change : X → X) (xs : List X) → length (changed_each test change xs) ≡ length xs
+length-changed_each test change [] = refl
+length-changed_each test change (x ∷ xs) = ap suc (length-changed_each test change xs)
+
+each_few : (most : ℕ) (test : Peer → Bool) (change : Peer → Peer) (peers : List Peer) → Few most peers → Few most (changed_each test change peers)
+each_few most test change peers few = subst (λ (n : ℕ). n ≤ most) (sym (length-changed_each test change peers)) few
+
 with_new_few : (setup : Setup) (clock : ℕ) (wants : Bool) (address : Endpoint) (peers : List Peer) → Few setup.most_peers peers → Few setup.most_peers (with_new setup clock wants address peers)
 with_new_few setup clock wants address peers few = cond_both (can_name setup clock address peers) _ _ (Few setup.most_peers)
     (λ can. cond_both (list_any (is_rested clock) peers) _ _ (Few setup.most_peers) (λ _. changed_few setup.most_peers (is_rested clock) (replaced clock wants address) peers few)
@@ -123,12 +134,12 @@ answered_count most setup authentic Violated state r few = cond_both setup.is_re
 peer_count : (most : ℕ) (setup : Setup) (id : ℕ) (authentic : Bool) (answer : Answer) (state : State) → FewIn most state → FewIn most (answered_peer setup id authentic answer state)
 peer_count most setup id authentic (Opened relayed mapped lifetime) state few = few
 peer_count most setup id authentic (Extended lifetime) state few = few
-peer_count most setup id authentic Done state few = cond_both authentic _ _ (FewIn most) (λ _. changed_few most (awaits_of id) granted state.peers few) (λ _. few)
+peer_count most setup id authentic Done state few = cond_both authentic _ _ (FewIn most) (λ _. each_few most (awaits_of id) granted state.peers few) (λ _. few)
 peer_count most setup id authentic (Refused code) state few = cond_both authentic _ _ (FewIn most)
-    (λ _. cond_both (code == 437) _ _ (FewIn most) (λ _. few) (λ _. changed_few most (awaits_of id) (turned_down state.clock code) state.peers few)) (λ _. few)
-peer_count most setup id authentic (Challenged code challenge) state few = changed_few most (awaits_of id) (challenged setup state.challenge state.clock code) state.peers few
+    (λ _. cond_both (code == 437) _ _ (FewIn most) (λ _. few) (λ _. each_few most (awaits_of id) (turned_down state.clock code) state.peers few)) (λ _. few)
+peer_count most setup id authentic (Challenged code challenge) state few = each_few most (awaits_of id) (challenged setup state.challenge state.clock code) state.peers few
 peer_count most setup id authentic (Redirected server) state few = few
-peer_count most setup id authentic Violated state few = changed_few most (awaits_of id) (violated_by setup) state.peers few
+peer_count most setup id authentic Violated state few = each_few most (awaits_of id) (violated_by setup) state.peers few
 
 task_count : (most : ℕ) (setup : Setup) (authentic : Bool) (answer : Answer) (state : State) (o : Option Pending) → FewIn most state → FewIn most (option_map_or (λ (q : Pending). answered setup authentic answer state q.request) o state)
 task_count most setup authentic answer state None few = few
@@ -136,7 +147,10 @@ task_count most setup authentic answer state (Some q) few = answered_count most 
 
 turn_count : (most : ℕ) (setup : Setup) (fresh : ℕ) (state : State) (o : Option Peer) → FewIn most state → FewIn most (option_map_or (turns_peer setup fresh (is_free state.peers) state) o (keeps state)).state
 turn_count most setup fresh state None few = few
-turn_count most setup fresh state (Some p) few = changed_few most (is_next (is_free state.peers) state.clock) (turned_of setup state.clock fresh state.challenge) state.peers few
+turn_count most setup fresh state (Some p) few =
+    let along = takes_along setup state.clock state.peers p in
+    joined_keeps (Few most) setup state.clock fresh state.challenge (λ ps. changed_few most (is_fit state.clock) (turned_of true setup state.clock fresh state.challenge) ps) (most_others setup along) (turned_first setup fresh (is_free state.peers) along state)
+    (changed_few most (is_next (is_free state.peers) state.clock) (turned_of along setup state.clock fresh state.challenge) state.peers few)
 
 begins_count : (most : ℕ) (phase : Phase) (state : State) → FewIn most state → FewIn most (begins phase state)
 begins_count most Quiet state few = few

@@ -2,7 +2,7 @@
 use Rattle.std.proofs.Common.{◌≡◌, ℕ, inl, inr, true, false, ◌&&◌, find, List, [], ◌∷◌, ◌≤◌, Option, None, Some, refl, sym, ap, subst, ◌∙◌, arith}
 use Rattle.std.specs.List.{list_any}
 use Rattle.std.specs.Option.{option_map_or}
-use Rattle.std.proofs.lemmas.Bool.{or_left, and_from, cond-true, true≢false}
+use Rattle.std.proofs.lemmas.Bool.{or_left, and_from, cond-true, true≢false, or_right}
 use Rattle.stun_endpoints.proofs.AddressesLemmas.{endpoint_is_itself}
 use Rattle.turn_machine.specs.Relays.{Setup as ServerSetup, Rules}
 use Rattle.turn_machine.specs.Lists.{SomeOf as ServerHappened}
@@ -15,10 +15,12 @@ use Rattle.turn_client_machine.specs.Clients.{Ip, Endpoint, is_ip, is_endpoint, 
 use Rattle.turn_client_machine.specs.Events.{Answer, Opened, Extended, Done, Refused, Challenged, Redirected, Violated, sends, Output, send_to, shows, nothing}
 use Rattle.turn_client_machine.specs.Steps.{at, step}
 use Rattle.turn_client_machine.specs.Runs.{Happening, Happened}
-use Rattle.turn_client_machine.specs.Warrants.{Asks, Confirmed, lifetime_of, Lasts, names, Permits, Binds, IsPermitted, IsBound}
+use Rattle.turn_client_machine.specs.Warrants.{Asks, Confirmed, lifetime_of, Lasts, names, Permits, Binds, IsPermitted, IsBound, IsPartOf}
 use Rattle.turn_client_machine.specs.Joined.{request_of, answer_of, Answers, is_success, IsLinked, one_clock, granted_there, LastsThere, ServerLasts, ServerPermits, ServerBinds, at_server, at_client, IsAgreed, Works}
 use Rattle.turn_machine.proofs.ListsLemmas.{some_both}
 use Rattle.turn_client_machine.proofs.ServerSound.{IsPast, run_past, named_allowed}
+use Rattle.turn_client_machine.proofs.ListsLemmas.{some_any}
+use Rattle.turn_client_machine.proofs.ServerEnds.{some_out}
 
 -- which response it was
 pub record Picked (server : Endpoint) (P : Request → Answer → Type 0) (hs : List Happening) : Type 0 where
@@ -44,12 +46,25 @@ happened_map P Q f [] some = absurd some
 happened_map P Q f (h ∷ hs) (inl p) = inl (f h p)
 happened_map P Q f (h ∷ hs) (inr some) = inr (happened_map P Q f hs some)
 
-pub named_there : (ip : Ip) (wanted : Option ℕ) (id : ℕ) (want : Want) (k : Kind) → names ip k ≡ true → names_there ip (request_of wanted id want k) ≡ true
-named_there ip wanted id want Allocate is = absurd cc
-named_there ip wanted id want Refresh is = absurd cc
-named_there ip wanted id want Delete is = absurd cc
-named_there ip wanted id want (Permit peer) is = or_left (is_ip ip peer.ip) false is
-named_there ip wanted id want (Bind number peer) is = is
+pub named_there : (ip : Ip) (wanted : Option ℕ) (id : ℕ) (want : Want) (others : List Endpoint) (k : Kind) → names ip k ≡ true → names_there ip (request_of wanted id want others k) ≡ true
+named_there ip wanted id want others Allocate is = absurd cc
+named_there ip wanted id want others Refresh is = absurd cc
+named_there ip wanted id want others Delete is = absurd cc
+named_there ip wanted id want others (Permit peer) is = or_left (is_ip ip peer.ip) (list_any (λ other. is_ip ip other.ip) others) is
+named_there ip wanted id want others (Bind number peer) is = is
+
+-- so does the request that asks for it
+pub part_named : (ip : Ip) (wanted : Option ℕ) (id : ℕ) (want : Want) (first : Request) (others : List Endpoint) (r : Request) → IsPartOf first others r → names ip r.kind ≡ true → names_there ip (request_of wanted id want others first.kind) ≡ true
+part_named ip wanted id want first others r (inl same) is = named_there ip wanted id want others first.kind (subst (λ (x : Request). names ip x.kind ≡ true) same is)
+part_named ip wanted id want first others r (inr along) is =
+    subst (λ (k : Kind). names_there ip (request_of wanted id want others k) ≡ true) (sym along.kind)
+    (or_right (is_ip ip along.peer.ip) (list_any (λ other. is_ip ip other.ip) others)
+    (some_any (λ other. r ≡ record first { kind = Permit other }) (λ other. is_ip ip other.ip) (λ other same. subst (λ (x : Request). names ip x.kind ≡ true) same is) others along.named))
+
+pub part_binds : (number : ℕ) (peer : Endpoint) (first : Request) (others : List Endpoint) (r : Request) → IsPartOf first others r → r.kind ≡ Bind number peer → first.kind ≡ Bind number peer
+part_binds number peer first others r (inl same) is = ap (λ (x : Request). x.kind) (sym same) ∙ is
+part_binds number peer first others r (inr along) is =
+    some_out (λ other. r ≡ record first { kind = Permit other }) (first.kind ≡ Bind number peer) (λ other same. let k : Permit other ≡ Bind number peer = sym (ap (λ (x : Request). x.kind) same) ∙ is in absurd cc) others along.named
 
 pub done_there : (mapped : Endpoint) (given : ServerAnswer) → Done ≡ answer_of mapped given → given ≡ s_done
 done_there mapped (s_allocated [] lifetime missing) is = absurd cc
@@ -92,13 +107,13 @@ permits_there setup hs server there tuple user ip now le linked permitted =
     let p = picked setup.server (Permits ip now) hs permitted.permitted in
     some_both (IsPast now) (Answers one_clock tuple user p.request p.answer) (PermitsThere tuple user ip now)
     (λ h past a.
-    let named = named_there ip a.wanted p.request.id a.want p.request.kind p.holds.named in
+    let named = part_named ip a.wanted a.first.id a.want a.first a.others p.request a.part p.holds.named in
     let succeeded = a.answered ∙ ap (s_answers tuple) (done_there a.mapped a.given (sym p.holds.success ∙ a.same)) in
     record {
-      request = request_of a.wanted p.request.id a.want p.request.kind;
+      request = request_of a.wanted a.first.id a.want a.others a.first.kind;
       asked = a.asked;
       named = named;
-      allowed = named_allowed ip h.rules (request_of a.wanted p.request.id a.want p.request.kind) (past.sound tuple user (request_of a.wanted p.request.id a.want p.request.kind) a.asked succeeded) named;
+      allowed = named_allowed ip h.rules (request_of a.wanted a.first.id a.want a.others a.first.kind) (past.sound tuple user (request_of a.wanted a.first.id a.want a.others a.first.kind) a.asked succeeded) named;
       succeeded = succeeded;
       came = past.came;
       lasts = let in_time = p.holds.in_time in let after = a.after in omega (arith, in_time, after);
@@ -110,7 +125,7 @@ binds_there setup hs server there tuple user number peer now le linked bound =
     let p = picked setup.server (Binds number peer now) hs bound.bound in
     some_both (IsPast now) (Answers one_clock tuple user p.request p.answer) (BindsThere tuple user number peer now)
     (λ h past a.
-    let asked = a.asked ∙ ap (λ (k : Kind). s_asks tuple user (request_of a.wanted p.request.id a.want k)) p.holds.kind in
+    let asked = a.asked ∙ ap (λ (k : Kind). s_asks tuple user (request_of a.wanted a.first.id a.want a.others k)) (part_binds number peer a.first a.others p.request a.part p.holds.kind) in
     let succeeded = a.answered ∙ ap (s_answers tuple) (done_there a.mapped a.given (sym p.holds.success ∙ a.same)) in
     record {
       asked = asked;
@@ -152,7 +167,7 @@ lifetime_there setup hs server there tuple user now linked confirmed =
     let p = picked setup.server (Lasts now) hs confirmed in
     happened_map (Answers one_clock tuple user p.request p.answer) (LastsThere tuple user now)
     (λ h a. record {
-      request = request_of a.wanted p.request.id a.want p.request.kind;
+      request = request_of a.wanted a.first.id a.want a.others a.first.kind;
       asked = a.asked;
       given = a.given;
       answered = a.answered;

@@ -1,16 +1,19 @@
 -- What a step may change: a property of each peer, or of what is asked of the allocation, holds after it
 -- if each change keeps it.
-use Rattle.std.proofs.Common.{◌≡◌, ℕ, ◌+◌, ◌≤◌, inl, inr, ◌⊎◌, Bool, true, false, ◌&&◌, List, Option, None, Some, refl, sym, ap, subst, ◌∙◌, find}
+use Rattle.std.proofs.Common.{◌≡◌, ℕ, ◌+◌, ◌-◌, ◌≤◌, inl, inr, ◌⊎◌, Bool, true, false, not, ◌&&◌, ◌||◌, List, [], Option, None, Some, refl, sym, ap, subst, ◌∙◌, find}
 use Rattle.std.specs.List.{AllByRecursion, list_any}
 use Rattle.std.specs.Option.{option_map_or}
 use Rattle.std.specs.Prelude.{◌==◌, is_some}
-use Rattle.std.proofs.lemmas.Bool.{cond_both, cond-true, cond-false, and_parts, leb-true}
+use Rattle.std.proofs.lemmas.Bool.{cond_both, cond-true, cond-false, and_parts, leb-true, not-true}
 use Rattle.turn_client_machine.specs.Clients.{Endpoint, is_endpoint, seconds, Setup, Kind, Allocate, Refresh, Delete, Permit, Bind, Request, Pending, End, Closed, Rejected, Moved, Useless, Phase, Quiet, Asking, Allocated, Closing, Ended, Task, Peer, State, is_allocated, is_active, is_peer, is_rested}
-use Rattle.turn_client_machine.specs.Events.{Answer, Opened, Extended, Done, Refused, Challenged, Redirected, Violated, Event, allocates, permits, binds, drops, sends, closes, responds, gives, gives_on, strays, polls}
-use Rattle.turn_client_machine.specs.Tasks.{begun_task, kept_task, again_task, awaits, may_retry, is_due, is_expired, turned, turn_output}
+use Rattle.turn_client_machine.specs.Events.{Answer, Opened, Extended, Done, Refused, Challenged, Redirected, Violated, Event, allocates, permits, binds, drops, sends, closes, responds, gives, gives_on, strays, polls, Output, asks, nothing}
+use Rattle.turn_machine.specs.Lists.{SomeOf}
+use Rattle.turn_client_machine.specs.Warrants.{AsksFor}
+use Rattle.turn_client_machine.specs.Tasks.{request_now, may_send, begun_task, kept_task, again_task, awaits, may_retry, is_due, is_expired, turned, turn_output}
 use Rattle.turn_client_machine.specs.Responses.{is_allocate, ends, restarted, reopened, opened, extended, extended_by, answered, granted, turned_down, challenged, awaits_of, answered_peer, responded, deletes, is_long, is_useful, reason_in, violated_by}
-use Rattle.turn_client_machine.specs.Steps.{Step, keeps, begins, covers, can_name, new_peer, replaced, with_new, wanting, dropped, is_listed, closes_from, kind_in, silent_in, turns, turned_of, output_of, turns_peer, polled, happens, is_next, is_free}
-use Rattle.turn_client_machine.proofs.ListsLemmas.{each_mapped, each_changed}
+use Rattle.turn_client_machine.specs.Steps.{Step, keeps, begins, covers, can_name, new_peer, replaced, with_new, wanting, dropped, is_listed, closes_from, kind_in, silent_in, turns, turned_of, turns_peer, polled, happens, is_next, is_free, is_single, is_fit, is_due_of, kind_of, own_task, takes_along, turned_first, others_at, others_of}
+use Rattle.turn_client_machine.proofs.ListsLemmas.{each_mapped, each_changed, each_changed_each, Within, some_map}
+use Rattle.turn_client_machine.proofs.JoiningLemmas.{fit_parts, takes_parts, Wanted, fresh_request, fresh_may, joined_each}
 
 -- an authentic response from the server
 pub record Genuine (setup : Setup) (event : Event) (id : ℕ) (answer : Answer) : Type 0 where
@@ -40,6 +43,10 @@ pub record IsViolated (event : Event) : Type 0 where
 abbrev pub Restarts : State → Event → Peer → Type 0
 Restarts state event p = (address : Endpoint) × (event ≡ permits address) × (is_peer address p ≡ true) × (find (is_peer address) state.peers ≡ Some p) × (list_any (covers address.ip) state.peers ≡ false)
 
+-- if a request for the peer is sent now, the output asks for it
+abbrev pub IsAskedFor : Setup → (clock fresh : ℕ) → (challenge : Option ℕ) → Peer → Output → Type 0
+IsAskedFor setup clock fresh challenge p output = is_expired clock p.task ≡ false → may_send setup (own_task p) ≡ true → AsksFor (request_now clock fresh (kind_of p) challenge (own_task p)) output
+
 pub record PeerChanges (P : Peer → Type 0) (setup : Setup) (fresh : ℕ) (state : State) (event : Event) : Type 0 where
   pub new : (wants : Bool) (address : Endpoint) (peers : List Peer) → (event ≡ permits address) ⊎ (event ≡ binds address) → list_any (is_peer address) state.peers ≡ false → P (new_peer state.clock wants address peers)
   pub replaces : (wants : Bool) (address : Endpoint) (p : Peer) → (event ≡ permits address) ⊎ (event ≡ binds address) → list_any (is_peer address) state.peers ≡ false → is_rested state.clock p ≡ true → P p → P (replaced state.clock wants address p)
@@ -48,11 +55,11 @@ pub record PeerChanges (P : Peer → Type 0) (setup : Setup) (fresh : ℕ) (stat
   pub restarts : (p : Peer) → Restarts state event p → P p → P (restarted state.clock p)
   pub wants : (p : Peer) (address : Endpoint) → event ≡ binds address → is_peer address p ≡ true → P p → P (wanting state.clock p)
   pub grants : (p : Peer) (id : ℕ) → Genuine setup event id Done → awaits_of id p ≡ true → P p → P (granted p)
-  pub turns_down : (p : Peer) (id code : ℕ) → Genuine setup event id (Refused code) → awaits_of id p ≡ true → find (awaits_of id) state.peers ≡ Some p → P p → P (turned_down state.clock code p)
-  pub challenges_it : (p : Peer) (is : IsChallenged event) → awaits_of is.id p ≡ true → find (awaits_of is.id) state.peers ≡ Some p → P p → P (challenged setup state.challenge state.clock is.code p)
-  pub violates_it : (p : Peer) (is : IsViolated event) → awaits_of is.id p ≡ true → find (awaits_of is.id) state.peers ≡ Some p → P p → P (violated_by setup p)
-  pub turns_it : (p : Peer) → event ≡ polls → is_next (is_free state.peers) state.clock p ≡ true → (polled setup fresh state).output ≡ output_of setup state.clock fresh state.challenge p → P p
-      → P (turned_of setup state.clock fresh state.challenge p)
+  pub turns_down : (p : Peer) (id code : ℕ) → Genuine setup event id (Refused code) → awaits_of id p ≡ true → Within state.peers p → P p → P (turned_down state.clock code p)
+  pub challenges_it : (p : Peer) (is : IsChallenged event) → awaits_of is.id p ≡ true → Within state.peers p → P p → P (challenged setup state.challenge state.clock is.code p)
+  pub violates_it : (p : Peer) (is : IsViolated event) → awaits_of is.id p ≡ true → Within state.peers p → P p → P (violated_by setup p)
+  pub turns_it : (p : Peer) (along : Bool) → event ≡ polls → p.over ≡ false → IsAskedFor setup state.clock fresh state.challenge p (polled setup fresh state).output → P p
+      → P (turned_of along setup state.clock fresh state.challenge p)
 
 with_new_each : (P : Peer → Type 0) (setup : Setup) (clock : ℕ) (wants : Bool) (address : Endpoint) (peers : List Peer) → P (new_peer clock wants address peers) → ((p : Peer) → is_rested clock p ≡ true → P p → P (replaced clock wants address p)) → AllByRecursion P peers
     → AllByRecursion P (with_new setup clock wants address peers)
@@ -85,18 +92,18 @@ peer_answered_each : (P : Peer → Type 0) (setup : Setup) (fresh : ℕ) (from :
 peer_answered_each P setup fresh from id authentic (Opened relayed mapped lifetime) state server c each = each
 peer_answered_each P setup fresh from id authentic (Extended lifetime) state server c each = each
 peer_answered_each P setup fresh from id true Done state server c each =
-    each_changed P (awaits_of id) granted state.peers (λ p is _. c.grants p id (record { from = from; is_server = server; event_is = refl }) is) each
+    each_changed_each P (awaits_of id) granted state.peers (λ p is _. c.grants p id (record { from = from; is_server = server; event_is = refl }) is) each
 peer_answered_each P setup fresh from id false Done state server c each = each
 peer_answered_each P setup fresh from id true (Refused code) state server c each =
     cond_both (code == 437) _ _ (λ (s : State). AllByRecursion P s.peers) (λ _. each)
-    (λ _. each_changed P (awaits_of id) (turned_down state.clock code) state.peers (λ p is found. c.turns_down p id code (record { from = from; is_server = server; event_is = refl }) is found) each)
+    (λ _. each_changed_each P (awaits_of id) (turned_down state.clock code) state.peers (λ p is found. c.turns_down p id code (record { from = from; is_server = server; event_is = refl }) is found) each)
 peer_answered_each P setup fresh from id false (Refused code) state server c each = each
 peer_answered_each P setup fresh from id authentic (Challenged code challenge) state server c each =
-    each_changed P (awaits_of id) (challenged setup state.challenge state.clock code) state.peers
+    each_changed_each P (awaits_of id) (challenged setup state.challenge state.clock code) state.peers
     (λ p is found. c.challenges_it p (record { from = from; id = id; authentic = authentic; code = code; challenge = challenge; event_is = refl }) is found) each
 peer_answered_each P setup fresh from id authentic (Redirected server) state is c each = each
 peer_answered_each P setup fresh from id authentic Violated state is c each =
-    each_changed P (awaits_of id) (violated_by setup) state.peers (λ p is found. c.violates_it p (record { from = from; id = id; authentic = authentic; event_is = refl }) is found) each
+    each_changed_each P (awaits_of id) (violated_by setup) state.peers (λ p is found. c.violates_it p (record { from = from; id = id; authentic = authentic; event_is = refl }) is found) each
 
 task_answered_each : (P : Peer → Type 0) (setup : Setup) (authentic : Bool) (answer : Answer) (state : State) (o : Option Pending) → ((q : Pending) → o ≡ Some q → is_allocate q.request.kind ≡ true → (p : Peer) → P p → P (reopened state.clock p)) → AllByRecursion P state.peers
     → AllByRecursion P (option_map_or (λ (q : Pending). answered setup authentic answer state q.request) o state).peers
@@ -117,11 +124,58 @@ responded_each P setup fresh from id authentic answer state c each =
 turns_each : (P : Peer → Type 0) (setup : Setup) (fresh : ℕ) (state : State) → AllByRecursion P state.peers → AllByRecursion P (turns setup fresh state).state.peers
 turns_each P setup fresh state each = cond_both (is_expired state.clock state.task) _ _ (λ (s : Step). AllByRecursion P s.state.peers) (λ _. each) (λ _. each)
 
+-- a peer that is next, or fit, isn't over
+pub due_on : (clock : ℕ) (p : Peer) → is_due_of clock p ≡ true → p.over ≡ false
+due_on clock p due = not-true p.over (and_parts (not p.over) (is_due clock p.task) due).0
+
+pub next_due : (free : Bool) (clock : ℕ) (p : Peer) → is_next free clock p ≡ true → is_due_of clock p ≡ true
+next_due free clock p next = (and_parts (free || (is_single p || is_expired clock p.task)) (is_due_of clock p) next).1
+
+-- the output if a peer has its turn
+abbrev TurnOutput : Setup → (fresh : ℕ) → State → Peer → Output
+TurnOutput setup fresh state p = (turns_peer setup fresh (is_free state.peers) state p).output
+
+first_asked : (setup : Setup) (fresh : ℕ) (state : State) (p : Peer) → IsAskedFor setup state.clock fresh state.challenge p (TurnOutput setup fresh state p)
+first_asked setup fresh state p fit may =
+    let others = others_at setup fresh (is_free state.peers) (takes_along setup state.clock state.peers p) state in
+    let r = request_now state.clock fresh (kind_of p) state.challenge (own_task p) in
+    let out : TurnOutput setup fresh state p ≡ asks r others =
+    cond-false (is_expired state.clock p.task) nothing (turn_output setup state.clock fresh (kind_of p) state.challenge others (own_task p)) fit
+    ∙ cond-true (may_send setup (own_task p)) (asks r others) nothing may in
+    subst (AsksFor r) (sym out) (inl refl)
+
+-- a further peer
+along_asked : (setup : Setup) (fresh : ℕ) (state : State) (p q : Peer) → takes_along setup state.clock state.peers p ≡ true → is_fit state.clock q ≡ true
+    → SomeOf (λ e. q.address ≡ e) (others_at setup fresh (is_free state.peers) (takes_along setup state.clock state.peers p) state) → IsAskedFor setup state.clock fresh state.challenge q (TurnOutput setup fresh state p)
+along_asked setup fresh state p q along fit some _ _ =
+    let clock = state.clock in
+    let others = others_at setup fresh (is_free state.peers) (takes_along setup clock state.peers p) state in
+    let parts = takes_parts setup clock state.peers p along in
+    let first = fresh_request clock fresh state.challenge p parts.fit in
+    let own = fresh_request clock fresh state.challenge q fit in
+    let r = request_now clock fresh (kind_of p) state.challenge (own_task p) in
+    let out : TurnOutput setup fresh state p ≡ asks r others =
+    cond-false (is_expired clock p.task) nothing (turn_output setup clock fresh (kind_of p) state.challenge others (own_task p)) (fit_parts clock p parts.fit).early
+    ∙ cond-true (may_send setup (own_task p)) (asks r others) nothing (fresh_may setup clock p parts.fit parts.sends) in
+    let r_is : r ≡ Wanted clock fresh state.challenge p.address = first in
+    subst (AsksFor (request_now clock fresh (kind_of q) state.challenge (own_task q))) (sym out)
+    (inr (record {
+      peer = p.address;
+      kind = ap (λ (x : Request). x.kind) r_is;
+      named = some_map (λ e. q.address ≡ e) (λ e. request_now clock fresh (kind_of q) state.challenge (own_task q) ≡ record r { kind = Permit e })
+          (λ e is. own ∙ (ap (Wanted clock fresh state.challenge) is ∙ ap (λ (x : Request). record x { kind = Permit e }) (sym r_is))) others some;
+    }))
+
 found_each : (P : Peer → Type 0) (setup : Setup) (fresh : ℕ) (state : State) (o : Option Peer) → find (is_next (is_free state.peers) state.clock) state.peers ≡ o
-    → ((p : Peer) → o ≡ Some p → is_next (is_free state.peers) state.clock p ≡ true → P p → P (turned_of setup state.clock fresh state.challenge p)) → AllByRecursion P state.peers → AllByRecursion P (option_map_or (turns_peer setup fresh (is_free state.peers) state) o (keeps state)).state.peers
+    → ((p q : Peer) (along : Bool) → o ≡ Some p → q.over ≡ false → IsAskedFor setup state.clock fresh state.challenge q (TurnOutput setup fresh state p) → P q → P (turned_of along setup state.clock fresh state.challenge q)) → AllByRecursion P state.peers → AllByRecursion P (option_map_or (turns_peer setup fresh (is_free state.peers) state) o (keeps state)).state.peers
 found_each P setup fresh state None is f each = each
-found_each P setup fresh state (Some q) is f each =
-    each_changed P (is_next (is_free state.peers) state.clock) (turned_of setup state.clock fresh state.challenge) state.peers (λ p due found. f p (sym is ∙ found) due) each
+found_each P setup fresh state (Some p) is f each =
+    let clock = state.clock in
+    let along = takes_along setup clock state.peers p in
+    let turned = turned_first setup fresh (is_free state.peers) along state in
+    let first : AllByRecursion P turned = each_changed P (is_next (is_free state.peers) clock) (turned_of along setup clock fresh state.challenge) state.peers
+    (λ q due found. let e : Some p ≡ Some q = sym is ∙ found in let same : p ≡ q = cc in f p q along refl (due_on clock q (next_due (is_free state.peers) clock q due)) (subst (λ (x : Peer). IsAskedFor setup clock fresh state.challenge x (TurnOutput setup fresh state p)) same (first_asked setup fresh state p))) each in
+    joined_each P setup clock fresh state.challenge along (setup.most_named - 1) turned (λ taken q fit some. f p q true refl (due_on (clock + seconds 30) q (fit_parts clock q fit).due) (along_asked setup fresh state p q taken fit (subst (λ (n : ℕ). SomeOf (λ e. q.address ≡ e) (others_of setup clock fresh state.challenge n turned)) (sym (cond-true {A = ℕ} along (setup.most_named - 1) 0 taken)) some))) first
 
 polled_each : (P : Peer → Type 0) (setup : Setup) (fresh : ℕ) (state : State) → PeerChanges P setup fresh state polls → AllByRecursion P state.peers → AllByRecursion P (polled setup fresh state).state.peers
 polled_each P setup fresh state c each =
@@ -129,9 +183,11 @@ polled_each P setup fresh state c each =
     (λ _. turns_each P setup fresh state each)
     (λ not_main. cond_both (is_allocated state.phase) _ _ (λ (s : Step). AllByRecursion P s.state.peers)
     (λ there. found_each P setup fresh state (find (is_next (is_free state.peers) state.clock) state.peers) refl
-    (λ p is due one. c.turns_it p refl due
-    (ap (λ (s : Step). s.output) (cond-false (is_active state.phase && is_due state.clock state.task) (turns setup fresh state) _ not_main
-    ∙ (cond-true (is_allocated state.phase) _ (keeps state) there ∙ ap (λ (o : Option Peer). option_map_or (turns_peer setup fresh (is_free state.peers) state) o (keeps state)) is)))
+    (λ p q along is on asked one. c.turns_it q along refl on
+    (subst (IsAskedFor setup state.clock fresh state.challenge q)
+    (sym (ap (λ (s : Step). s.output) (cond-false (is_active state.phase && is_due state.clock state.task) (turns setup fresh state) _ not_main
+    ∙ (cond-true (is_allocated state.phase) _ (keeps state) there ∙ ap (λ (o : Option Peer). option_map_or (turns_peer setup fresh (is_free state.peers) state) o (keeps state)) is))))
+    asked)
     one) each)
     (λ _. each))
 
@@ -181,7 +237,7 @@ pub record MainChanges (A : Phase → Task → ℕ → Type 0) (setup : Setup) (
   pub extends_it : (q : Pending) (id lifetime : ℕ) → Genuine setup event id (Extended lifetime) → state.task.pending ≡ Some q → awaits id state.task ≡ true → q.request.kind ≡ Refresh → 80 ≤ lifetime
       → A state.phase state.task state.expires_at → A state.phase (kept_task q.request.since lifetime) (q.request.since + seconds lifetime)
   pub again_it : (code : ℕ) (challenge : Option ℕ) → may_retry setup challenge code state.task ≡ true → A state.phase state.task state.expires_at → A state.phase (again_task state.clock state.task) state.expires_at
-  pub turns_it : event ≡ polls → is_expired state.clock state.task ≡ false → (polled setup fresh state).output ≡ turn_output setup state.clock fresh (kind_in state.phase) state.challenge state.task → A state.phase state.task state.expires_at
+  pub turns_it : event ≡ polls → is_expired state.clock state.task ≡ false → (polled setup fresh state).output ≡ turn_output setup state.clock fresh (kind_in state.phase) state.challenge [] state.task → A state.phase state.task state.expires_at
       → A state.phase (turned setup state.clock fresh (kind_in state.phase) state.challenge state.task) state.expires_at
 
 abbrev pub Main : (A : Phase → Task → ℕ → Type 0) → State → Type 0

@@ -1,4 +1,5 @@
 mod ListsLemmas
+mod JoiningLemmas
 mod Keeping
 mod SoundLemmas
 mod FewLemmas
@@ -6,7 +7,7 @@ mod StrangersLemmas
 mod Backed
 mod BackedLemmas
 mod RightLemmas
-mod WorkingLemmas
+pub mod WorkingLemmas
 mod ServerSound
 mod ServerEnds
 mod ServerOwn
@@ -17,13 +18,13 @@ mod PunctualLemmas
 mod BackLemmas
 mod MeetingsLemmas
 mod JoinedLemmas
-mod StayingLemmas
+pub mod StayingLemmas
 mod KeptLemmas
 mod NumbersLemmas
 mod AtOnceLemmas
 mod NamingLemmas
 mod KeepingLemmas
-mod ClockLemmas
+pub mod ClockLemmas
 mod AskingLemmas
 mod IdentifiedLemmas
 mod BoundLemmas
@@ -32,9 +33,11 @@ mod RenewingLemmas
 mod DeletingLemmas
 mod RareLemmas
 mod ViolatedLemmas
-mod RoundsLemmas
-mod AddedLemmas
+pub mod RoundsLemmas
+pub mod AddedLemmas
 mod LossLemmas
 mod TidyLemmas
 mod DroppedLemmas
 mod RestingLemmas
+mod OneRequestLemmas
+mod SharingLemmas

@@ -6,20 +6,21 @@ use Rattle.std.specs.Option.{option_map_or}
 use Rattle.std.specs.Prelude.{◌==◌, nat_le}
 use Rattle.std.proofs.lemmas.Bool.{cond_both, and_parts, and_from, or_cases, or_left, or_right, true≢false, false≢true}
 use Rattle.stun_endpoints.proofs.AddressesLemmas.{endpoint_same}
-use Rattle.turn_client_machine.proofs.ListsLemmas.{found_some}
+use Rattle.turn_client_machine.proofs.ListsLemmas.{found_some, each_changed}
 use Rattle.turn_client_machine.specs.Clients.{Endpoint, is_ip, seconds, Setup, Kind, Allocate, Refresh, Delete, Permit, Bind, Request, Pending, Phase, Quiet, Asking, Allocated, Closing, Ended, Task, Peer, State, is_allocated, is_active, is_endpoint, is_peer, is_dropped, is_rested}
 use Rattle.turn_client_machine.specs.Events.{Event, allocates, permits, binds, drops, sends, closes, responds, gives, gives_on, strays, polls, Refused, Challenged, Violated}
 use Rattle.turn_client_machine.specs.Tasks.{is_due, is_expired, may_send, turned, may_retry}
 use Rattle.turn_client_machine.specs.Responses.{asks_instead, changed_first, is_allocate, granted_by, given_up}
-use Rattle.turn_client_machine.specs.Steps.{Step, keeps, at, covers, replaced, dropped, is_listed, wanting, kind_in, kind_of, is_free, is_next, turned_of, turns_peer, happens, polled}
+use Rattle.turn_client_machine.specs.Steps.{Step, keeps, at, covers, replaced, dropped, is_listed, wanting, kind_in, kind_of, is_free, is_next, turned_of, turns_peer, happens, polled, own_task, takes_along, is_fit, most_others, turned_first}
 use Rattle.turn_client_machine.specs.Runs.{Timed, run}
 use Rattle.turn_client_machine.specs.Lasting.{IsInTime, IsOpen, IsServed, IsServedFor, is_refusal}
 use Rattle.turn_client_machine.specs.Reach.{IsUsable, IsPunctual}
 use Rattle.turn_client_machine.proofs.Keeping.{PeerChanges, happens_each, MainChanges, happens_main}
 use Rattle.turn_client_machine.proofs.KeptLemmas.{stays_allocated}
 use Rattle.turn_client_machine.proofs.StayingLemmas.{refusing, same_endpoint}
-use Rattle.turn_client_machine.proofs.NumbersLemmas.{NamesKeep, happens_peers}
+use Rattle.turn_client_machine.proofs.NumbersLemmas.{NamesKeep, happens_peers, joined_keeps}
 use Rattle.turn_client_machine.proofs.RoundsLemmas.{known_changed, known_keep}
+use Rattle.turn_client_machine.proofs.JoiningLemmas.{fit_parts}
 
 -- ---- A client with an allocation asks for no other
 
@@ -96,25 +97,32 @@ usable_changes named setup fresh state event harmless timeless none known = reco
       (λ isnt here. refusing setup named state event is.from is.id is.authentic (Challenged is.code is.challenge) p is.event_is harmless awaited found here (ap not isnt));
   violates_it = λ p is awaited found u. cond_both setup.is_reliable _ _ (IsUsable named)
       (λ reliable here. refusing setup named state event is.from is.id is.authentic Violated p is.event_is harmless awaited found here reliable) (λ _. u);
-  turns_it = λ p is _ out u. absurd (timeless is);
+  turns_it = λ p along is _ out u. absurd (timeless is);
 }
 
-changed_usable : (named : Endpoint) (setup : Setup) (clock fresh : ℕ) (challenge : Option ℕ) (test : Peer → Bool) (ps : List Peer) → AllByRecursion (IsOpen named clock) ps → AllByRecursion (IsUsable named) ps
-    → AllByRecursion (IsUsable named) (changed_first test (turned_of setup clock fresh challenge) ps)
-changed_usable named setup clock fresh challenge test [] opens us = tt
-changed_usable named setup clock fresh challenge test (p ∷ ps) opens us =
+changed_usable : (along : Bool) (named : Endpoint) (setup : Setup) (clock fresh : ℕ) (challenge : Option ℕ) (test : Peer → Bool) (ps : List Peer) → AllByRecursion (IsOpen named clock) ps → AllByRecursion (IsUsable named) ps
+    → AllByRecursion (IsUsable named) (changed_first test (turned_of along setup clock fresh challenge) ps)
+changed_usable along named setup clock fresh challenge test [] opens us = tt
+changed_usable along named setup clock fresh challenge test (p ∷ ps) opens us =
     cond_both (test p) _ _ (AllByRecursion (IsUsable named))
     (λ _. (
-      cond_both (is_expired clock p.task) (given_up 0 p) (record p { task = turned setup clock fresh (kind_of p) challenge p.task }) (IsUsable named)
+      cond_both (is_expired clock p.task) (given_up 0 p) (record p { task = turned setup clock fresh (kind_of p) challenge (own_task p); shared = along }) (IsUsable named)
           (λ late here. absurd (true≢false (sym late ∙ opens.0 here))) (λ _. us.0),
       us.1,
     ))
-    (λ _. (us.0, changed_usable named setup clock fresh challenge test ps opens.1 us.1))
+    (λ _. (us.0, changed_usable along named setup clock fresh challenge test ps opens.1 us.1))
 
 found_usable : (named : Endpoint) (setup : Setup) (fresh : ℕ) (state : State) (o : Option Peer) → AllByRecursion (IsOpen named state.clock) state.peers → AllByRecursion (IsUsable named) state.peers
     → AllByRecursion (IsUsable named) (option_map_or (turns_peer setup fresh (is_free state.peers) state) o (keeps state)).state.peers
 found_usable named setup fresh state None opens us = us
-found_usable named setup fresh state (Some p) opens us = changed_usable named setup state.clock fresh state.challenge (is_next (is_free state.peers) state.clock) state.peers opens us
+found_usable named setup fresh state (Some p) opens us =
+    let along = takes_along setup state.clock state.peers p in
+    joined_keeps (AllByRecursion (IsUsable named)) setup state.clock fresh state.challenge
+    (λ ps each. each_changed (IsUsable named) (is_fit state.clock) (turned_of true setup state.clock fresh state.challenge) ps
+    (λ q fit _ one. cond_both (is_expired state.clock q.task) (given_up 0 q) (record q { task = turned setup state.clock fresh (kind_of q) state.challenge (own_task q); shared = true }) (IsUsable named)
+    (λ late. absurd (true≢false (sym late ∙ (fit_parts state.clock q fit).early))) (λ _. one)) each)
+    (most_others setup along) (turned_first setup fresh (is_free state.peers) along state)
+    (changed_usable along named setup state.clock fresh state.challenge (is_next (is_free state.peers) state.clock) state.peers opens us)
 
 polled_usable : (named : Endpoint) (setup : Setup) (fresh : ℕ) (state : State) → AllByRecursion (IsOpen named state.clock) state.peers → AllByRecursion (IsUsable named) state.peers → AllByRecursion (IsUsable named) (polled setup fresh state).state.peers
 polled_usable named setup fresh state opens us =

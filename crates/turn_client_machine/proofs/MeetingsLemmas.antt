@@ -6,7 +6,7 @@ use Rattle.turn_client_machine.specs.Clients.{seconds, Request, Bind, Allocate}
 use Rattle.turn_client_machine.specs.Events.{Answer, Opened, Done}
 use Rattle.turn_client_machine.specs.Steps.{at}
 use Rattle.turn_client_machine.specs.Runs.{run, history, Happened}
-use Rattle.turn_client_machine.specs.Warrants.{Asks}
+use Rattle.turn_client_machine.specs.Warrants.{Asks, IsPartOf}
 use Rattle.turn_client_machine.specs.Joined.{request_of, Answers, IsLinked, one_clock}
 use Rattle.turn_client_machine.specs.Reach.{happened_since, IsOwn, IsJoined, IsPunctual, IsSettled}
 use Rattle.turn_client_machine.specs.Examples.{address, peer_1, tuple_1, setup_1, want_1, server_setup}
@@ -19,15 +19,19 @@ request_0 = record { id = 100; kind = Allocate; challenge = None; since = 0 }
 abbrev IsOne : Request → Type 0
 IsOne r = (r ≡ request_2) ⊎ ((r ≡ request_1) ⊎ (r ≡ request_0))
 
+single : (first r : Request) → IsPartOf first [] r → r ≡ first
+single first r (inl same) = same
+single first r (inr along) = absurd along.named
+
 which : (r : Request) → Happened (Asks r) (history setup_1 events_1) → IsOne r
-which r (inl a) = let e = a.asked in absurd cc
-which r (inr (inl a)) = let e = a.asked in inl cc
-which r (inr (inr (inl a))) = let e = a.asked in absurd cc
-which r (inr (inr (inr (inl a)))) = let e = a.asked in inr (inl cc)
-which r (inr (inr (inr (inr (inl a))))) = let e = a.asked in absurd cc
-which r (inr (inr (inr (inr (inr (inl a)))))) = let e = a.asked in inr (inr cc)
-which r (inr (inr (inr (inr (inr (inr (inl a))))))) = let e = a.asked in absurd cc
-which r (inr (inr (inr (inr (inr (inr (inr (inl a)))))))) = let e = a.asked in absurd cc
+which r (inl a) = absurd a.asked
+which r (inr (inl a)) = inl (single request_2 r a.asked)
+which r (inr (inr (inl a))) = absurd a.asked
+which r (inr (inr (inr (inl a)))) = inr (inl (single request_1 r a.asked))
+which r (inr (inr (inr (inr (inl a))))) = absurd a.asked
+which r (inr (inr (inr (inr (inr (inl a)))))) = inr (inr (single request_0 r a.asked))
+which r (inr (inr (inr (inr (inr (inr (inl a))))))) = absurd a.asked
+which r (inr (inr (inr (inr (inr (inr (inr (inl a)))))))) = absurd a.asked
 which r (inr (inr (inr (inr (inr (inr (inr (inr none)))))))) = absurd none
 
 with_102 : (r : Request) → IsOne r → 102 ≡ r.id → r ≡ request_2
@@ -41,10 +45,10 @@ with_101 r (inr (inl is)) id = is
 with_101 r (inr (inr is)) id = let e : 101 ≡ 100 = id ∙ ap (λ (x : Request). x.id) is in absurd (omega (arith, e))
 
 answered_2 : ServerHappened (Answers one_clock tuple_1 5 request_2 Done) (happened_since server_setup requests_1 [])
-answered_2 = inl (record { wanted = None; want = want_1; mapped = address 12; given = s_done; asked = refl; answered = refl; same = refl; after = omega arith })
+answered_2 = inl (record { wanted = None; want = want_1; mapped = address 12; given = s_done; first = request_2; others = []; part = inl refl; asked = refl; answered = refl; same = refl; after = omega arith })
 
 answered_1 : ServerHappened (Answers one_clock tuple_1 5 request_1 (Opened (address 2) (address 12) 600)) (happened_since server_setup requests_1 [])
-answered_1 = inr (inl (record { wanted = None; want = want_1; mapped = address 12; given = s_allocated (record { family = 1; number = 7; address = address 2 } ∷ []) 600 []; asked = refl; answered = refl; same = refl; after = omega arith }))
+answered_1 = inr (inl (record { wanted = None; want = want_1; mapped = address 12; given = s_allocated (record { family = 1; number = 7; address = address 2 } ∷ []) 600 []; first = request_1; others = []; part = inl refl; asked = refl; answered = refl; same = refl; after = omega arith }))
 
 abbrev There : Request → Answer → Type 0
 There r answer = ServerHappened (Answers one_clock tuple_1 5 r answer) (happened_since server_setup requests_1 [])
@@ -70,11 +74,11 @@ linked_1 r answer success (inr (inr (inr (inr (inr (inr (inl c))))))) = let e = 
 linked_1 r answer success (inr (inr (inr (inr (inr (inr (inr (inl c)))))))) = let e = c.responded in absurd cc
 linked_1 r answer success (inr (inr (inr (inr (inr (inr (inr (inr none)))))))) = absurd none
 
-own_2 : (request : ServerRequest) → s_asks tuple_1 5 (request_of None 102 want_1 request_2.kind) ≡ s_asks tuple_1 5 request → IsOwn one_clock None (history setup_1 events_1) 2 request
-own_2 request is = record { r = request_2; want = want_1; sent = inr (inl (record { asked = refl; then = refl })); same = cc; after = omega arith; soon = λ e. absurd cc }
+own_2 : (request : ServerRequest) → s_asks tuple_1 5 (request_of None 102 want_1 [] request_2.kind) ≡ s_asks tuple_1 5 request → IsOwn one_clock None (history setup_1 events_1) 2 request
+own_2 request is = record { r = request_2; others = []; want = want_1; sent = inr (inl (record { asked = refl; then = refl })); same = cc; after = omega arith; soon = λ e. absurd cc }
 
-own_1 : (request : ServerRequest) → s_asks tuple_1 5 (request_of None 101 want_1 request_1.kind) ≡ s_asks tuple_1 5 request → IsOwn one_clock None (history setup_1 events_1) 1 request
-own_1 request is = record { r = request_1; want = want_1; sent = inr (inr (inr (inl (record { asked = refl; then = refl })))); same = cc; after = omega arith; soon = λ e. omega arith }
+own_1 : (request : ServerRequest) → s_asks tuple_1 5 (request_of None 101 want_1 [] request_1.kind) ≡ s_asks tuple_1 5 request → IsOwn one_clock None (history setup_1 events_1) 1 request
+own_1 request is = record { r = request_1; others = []; want = want_1; sent = inr (inr (inr (inl (record { asked = refl; then = refl })))); same = cc; after = omega arith; soon = λ e. omega arith }
 
 pub joined_1 : IsJoined setup_1 (history setup_1 events_1) server_setup requests_1 [] tuple_1 5
 joined_1 = record {

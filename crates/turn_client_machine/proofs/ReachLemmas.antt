@@ -17,10 +17,10 @@ use Rattle.turn_client_machine.specs.Runs.{Timed, Happening, run, history}
 use Rattle.turn_client_machine.specs.Warrants.{Confirmed, lifetime_of, Permits, Binds, IsPermitted, IsBound}
 use Rattle.turn_client_machine.specs.Joined.{request_of, answer_of, Answers, is_success, IsLinked, granted_there}
 use Rattle.turn_client_machine.specs.Reach.{happened_since, IsOwn, IsAlone, IsSteady, IsJoined, Arrives, IsSocket}
-use Rattle.turn_client_machine.proofs.Backed.{LastsUntil}
+use Rattle.turn_client_machine.proofs.Backed.{LastsUntil, sends_asks}
 use Rattle.turn_client_machine.proofs.BackedLemmas.{run_kept}
 use Rattle.turn_client_machine.proofs.ListsLemmas.{each_map}
-use Rattle.turn_client_machine.proofs.JoinedLemmas.{picked, named_there, done_there, lasts_there, done_succeeds, grant_succeeds}
+use Rattle.turn_client_machine.proofs.JoinedLemmas.{picked, part_named, part_binds, done_there, lasts_there, done_succeeds, grant_succeeds, part_binds}
 use Rattle.turn_client_machine.proofs.ServerSound.{IsPast, run_past, named_allowed}
 use Rattle.turn_client_machine.proofs.AskingLemmas.{IsFit, EachAsked, AskedFit, run_fit, run_since}
 use Rattle.turn_client_machine.proofs.ServerEnds.{Succeeds, given_one, least_lifetime, some_out}
@@ -44,25 +44,25 @@ outlasts shown drift span slack clock moment since expires_at here steady arrive
 
 -- ---- What the client asks for is orderly
 
-fits_of : (shown : ℕ → ℕ) (drift span begin : ℕ) (wanted : Option ℕ) (moment : ℕ) (r : Request) (id : ℕ) (want : Want) (kind : Kind) → IsSteady shown drift span → drift < seconds 20 → seconds 600 ≤ span → r.kind ≡ kind → IsFit begin r → shown r.since ≤ moment
-    → (r.kind ≡ Allocate → moment < shown r.since + seconds 540) → Fits (shown begin) wanted moment (request_of wanted id want kind)
-fits_of shown drift span begin wanted moment r id want Allocate steady small long is fit after soon =
+fits_of : (shown : ℕ → ℕ) (drift span begin : ℕ) (wanted : Option ℕ) (moment : ℕ) (r : Request) (id : ℕ) (want : Want) (others : List Endpoint) (kind : Kind) → IsSteady shown drift span → drift < seconds 20 → seconds 600 ≤ span → r.kind ≡ kind → IsFit begin r → shown r.since ≤ moment
+    → (r.kind ≡ Allocate → moment < shown r.since + seconds 540) → Fits (shown begin) wanted moment (request_of wanted id want others kind)
+fits_of shown drift span begin wanted moment r id want others Allocate steady small long is fit after soon =
     let one = fit.after (ap is_allocate is) in
     let two = fit.soon (ap is_allocate is) in
     let three = soon is in
     let later = steady.later begin r.since one in
     let even = steady.even begin r.since one (omega (arith, two, long)) in
     (refl, omega (arith, later, after), omega (arith, two, three, even, small), record { want = want; same = refl })
-fits_of shown drift span begin wanted moment r id want Refresh steady small long is fit after soon = (refl, refl)
-fits_of shown drift span begin wanted moment r id want Delete steady small long is fit after soon = let lasts : is_delete r.kind ≡ false = fit.lasts in let ends : is_delete r.kind ≡ true = ap is_delete is in absurd cc
-fits_of shown drift span begin wanted moment r id want (Permit peer) steady small long is fit after soon = tt
-fits_of shown drift span begin wanted moment r id want (Bind number peer) steady small long is fit after soon = tt
+fits_of shown drift span begin wanted moment r id want others Refresh steady small long is fit after soon = (refl, refl)
+fits_of shown drift span begin wanted moment r id want others Delete steady small long is fit after soon = let lasts : is_delete r.kind ≡ false = fit.lasts in let ends : is_delete r.kind ≡ true = ap is_delete is in absurd cc
+fits_of shown drift span begin wanted moment r id want others (Permit peer) steady small long is fit after soon = tt
+fits_of shown drift span begin wanted moment r id want others (Bind number peer) steady small long is fit after soon = tt
 
 orderly_of : (shown : ℕ → ℕ) (drift span : ℕ) (hs : List Happening) (f : AskedFit hs) (wanted : Option ℕ) (tuple : FiveTuple) (user : ℕ) (there : List ServerHappening) → IsSteady shown drift span → drift < seconds 20 → seconds 600 ≤ span → IsAlone shown wanted hs there tuple user
     → AllByRecursion (IsOrderly (shown f.begin) wanted tuple user) there
 orderly_of shown drift span hs f wanted tuple user there steady small long = each_map (λ (h : ServerHappening). (request : ServerRequest) → h.event ≡ s_asks tuple user request → IsOwn shown wanted hs h.moment request) (IsOrderly (shown f.begin) wanted tuple user)
     (λ h own request asked. let o = own request asked in
-    subst (Fits (shown f.begin) wanted h.moment) (sym o.same) (fits_of shown drift span f.begin wanted h.moment o.r o.r.id o.want o.r.kind steady small long refl (f.each o.r o.sent) o.after o.soon)) there
+    subst (Fits (shown f.begin) wanted h.moment) (sym o.same) (fits_of shown drift span f.begin wanted h.moment o.r o.r.id o.want o.others o.r.kind steady small long refl (f.each o.r (sends_asks o.r o.others hs o.sent)) o.after o.soon)) there
 
 -- ---- What the client was granted
 
@@ -80,7 +80,7 @@ grant_there shown drift longest slack clock moment setup hs there tuple user exp
     (λ h a. record {
       lifetime = p.holds.lifetime;
       granted = record {
-        request = request_of a.wanted p.request.id a.want p.request.kind;
+        request = request_of a.wanted a.first.id a.want a.others a.first.kind;
         given = a.given;
         asked = a.asked;
         answered = a.answered;
@@ -95,13 +95,13 @@ permission_there shown drift span slack clock moment setup hs there tuple user i
     let p = picked setup.server (Permits ip (clock + slack)) hs permitted.permitted in
     some_both (IsPast moment) (Answers shown tuple user p.request p.answer) (PermitsThere tuple user ip moment)
     (λ h past a.
-    let named = named_there ip a.wanted p.request.id a.want p.request.kind p.holds.named in
+    let named = part_named ip a.wanted a.first.id a.want a.first a.others p.request a.part p.holds.named in
     let succeeded = a.answered ∙ ap (s_answers tuple) (done_there a.mapped a.given (sym p.holds.success ∙ a.same)) in
     record {
-      request = request_of a.wanted p.request.id a.want p.request.kind;
+      request = request_of a.wanted a.first.id a.want a.others a.first.kind;
       asked = a.asked;
       named = named;
-      allowed = named_allowed ip h.rules (request_of a.wanted p.request.id a.want p.request.kind) (past.sound tuple user (request_of a.wanted p.request.id a.want p.request.kind) a.asked succeeded) named;
+      allowed = named_allowed ip h.rules (request_of a.wanted a.first.id a.want a.others a.first.kind) (past.sound tuple user (request_of a.wanted a.first.id a.want a.others a.first.kind) a.asked succeeded) named;
       succeeded = succeeded;
       came = past.came;
       lasts = outlasts shown drift span slack clock moment p.request.since (seconds 300) h.moment steady arrives (sent p.request p.sent) (omega (arith, long)) p.holds.in_time a.after;
@@ -113,7 +113,7 @@ channel_there shown drift span slack clock moment setup hs there tuple user numb
     let p = picked setup.server (Binds number peer (clock + slack)) hs bound.bound in
     some_both (IsPast moment) (Answers shown tuple user p.request p.answer) (BindsThere tuple user number peer moment)
     (λ h past a.
-    let asked = a.asked ∙ ap (λ (k : Kind). s_asks tuple user (request_of a.wanted p.request.id a.want k)) p.holds.kind in
+    let asked = a.asked ∙ ap (λ (k : Kind). s_asks tuple user (request_of a.wanted a.first.id a.want a.others k)) (part_binds number peer a.first a.others p.request a.part p.holds.kind) in
     let succeeded = a.answered ∙ ap (s_answers tuple) (done_there a.mapped a.given (sym p.holds.success ∙ a.same)) in
     record {
       asked = asked;
@@ -209,7 +209,7 @@ told_there shown setup hs there tuple user relayed linked confirmed =
     (λ h a.
     let o = opens_there a.mapped relayed p.holds.mapped p.holds.lifetime a.given (sym p.holds.answer_is ∙ a.same) in
     record {
-      request = request_of a.wanted p.request.id a.want p.request.kind;
+      request = request_of a.wanted a.first.id a.want a.others a.first.kind;
       given = o.given;
       granted = o.granted;
       missing = o.missing;

@@ -10,19 +10,21 @@ use Rattle.turn_client_machine.specs.Clients.{Endpoint, is_endpoint, seconds, Se
 use Rattle.turn_client_machine.specs.Events.{Event, drops, gives_on, Output, asks, shows, nothing}
 use Rattle.turn_client_machine.specs.Tasks.{is_due, is_expired}
 use Rattle.turn_client_machine.specs.Responses.{changed_first}
-use Rattle.turn_client_machine.specs.Steps.{Step, keeps, at, replaced, dropped, is_listed, is_next, is_free, kind_in, kind_of, turned_of, turns_peer, polled, happens}
-use Rattle.turn_client_machine.specs.Warrants.{IsRight}
+use Rattle.turn_client_machine.specs.Steps.{Step, keeps, at, replaced, dropped, is_listed, is_next, is_free, kind_in, kind_of, turned_of, turns_peer, polled, happens, is_fit, own_task, others_at, takes_along}
+use Rattle.turn_client_machine.specs.Warrants.{AsksFor}
 use Rattle.turn_client_machine.specs.Dropping.{Asked, has_number}
 use Rattle.turn_client_machine.specs.Runs.{Timed, Happening, run, happening, history, Happened}
-use Rattle.turn_client_machine.proofs.ListsLemmas.{AnyOf, any_map, any_changed, any_each, found, each_pair, among}
+use Rattle.turn_client_machine.proofs.ListsLemmas.{AnyOf, any_map, any_changed, any_each, found, each_pair, among, any_changed_each}
 use Rattle.turn_client_machine.proofs.NumbersLemmas.{IsSame, turned_same, NamesKeep, PeersKeep, happens_peers, run_numbered}
 use Rattle.turn_client_machine.proofs.BoundLemmas.{IsNumbered, one_peer}
 use Rattle.turn_client_machine.proofs.Backed.{IsPending, IsBacked, is_main, WasSent}
 use Rattle.turn_client_machine.proofs.BackedLemmas.{IsKept, main_kind, run_kept}
 use Rattle.turn_client_machine.proofs.AskingLemmas.{turn_asks}
 use Rattle.turn_client_machine.proofs.ClockLemmas.{happens_clock}
-use Rattle.turn_client_machine.proofs.RightLemmas.{run_right}
+use Rattle.turn_client_machine.proofs.RightLemmas.{run_right, asked_polls}
 use Rattle.turn_client_machine.proofs.TidyLemmas.{IsTidy, run_tidy, next_on}
+use Rattle.turn_client_machine.proofs.JoiningLemmas.{turn_parts, own_pending, Wanted}
+use Rattle.turn_client_machine.proofs.ServerEnds.{some_out}
 
 -- ---- A number that was asked for is kept for its peer until a moment
 
@@ -48,7 +50,9 @@ reserved_keep setup until number address clock =
     let held = IsHeld until number address in record {
       mapped = λ change same calm ps. ⊎_elim (λ past. inl past) (λ some. inr (any_map held held change (λ p. same_held until number address p (change p) (same p)) ps some));
       changed = λ test change same calm ps. ⊎_elim (λ past. inl past) (λ some. inr (any_changed held test change (λ p. same_held until number address p (change p) (same p)) ps some));
-      turned = λ c fresh challenge ps. ⊎_elim (λ past. inl past) (λ some. inr (any_changed held (is_next (is_free ps) c) (turned_of setup c fresh challenge) (λ p. same_held until number address p (turned_of setup c fresh challenge p) (turned_same setup c fresh challenge p)) ps some));
+      changed_all = λ test change same calm ps. ⊎_elim (λ past. inl past) (λ some. inr (any_changed_each held test change (λ p. same_held until number address p (change p) (same p)) ps some));
+      turned = λ along c fresh challenge ps. ⊎_elim (λ past. inl past) (λ some. inr (any_changed held (is_next (is_free ps) c) (turned_of along setup c fresh challenge) (λ p. same_held until number address p (turned_of along setup c fresh challenge p) (turned_same along setup c fresh challenge p)) ps some));
+      joins = λ c fresh challenge ps. ⊎_elim (λ past. inl past) (λ some. inr (any_changed held (is_fit c) (turned_of true setup c fresh challenge) (λ p. same_held until number address p (turned_of true setup c fresh challenge p) (turned_same true setup c fresh challenge p)) ps some));
     }
 
 rested_until : (clock until : ℕ) (o : Option ℕ) → ((end : ℕ) → o ≡ Some end → until ≤ end) → option_map_or (λ end. nat_le end clock) o false ≡ true → until ≤ clock
@@ -121,35 +125,38 @@ no_main hs clock fresh number address kind challenge r None main sent same is =
 no_main hs clock fresh number address kind challenge r (Some q) main sent same is =
     let k : q.request.kind ≡ Bind number address = ap (λ (x : Request). x.kind) same ∙ is in absurd (false≢true (sym (ap is_main k) ∙ sent.1))
 
-polled_holds : (until number : ℕ) (address : Endpoint) (setup : Setup) (fresh : ℕ) (hs : List Happening) (s : State) (r : Request) → IsKept setup hs s → AllByRecursion IsTidy s.peers → (polled setup fresh s).output ≡ asks r → r.kind ≡ Bind number address
+polled_holds : (until number : ℕ) (address : Endpoint) (setup : Setup) (fresh : ℕ) (hs : List Happening) (s : State) (r : Request) → IsKept setup hs s → AllByRecursion IsTidy s.peers → AsksFor r (polled setup fresh s).output → r.kind ≡ Bind number address
     → AnyOf (IsHeld until number address) s.peers
 polled_holds until number address setup fresh hs s r k tidy out is =
     let Held = AnyOf (IsHeld until number address) s.peers in
-    cond_both (is_active s.phase && is_due s.clock s.task) _ _ (λ (x : Step). x.output ≡ asks r → Held)
-    (λ due. cond_both (is_expired s.clock s.task) _ _ (λ (x : Step). x.output ≡ asks r → Held) (λ _ e. absurd cc)
+    cond_both (is_active s.phase && is_due s.clock s.task) _ _ (λ (x : Step). AsksFor r x.output → Held)
+    (λ due. cond_both (is_expired s.clock s.task) _ _ (λ (x : Step). AsksFor r x.output → Held) (λ _ e. absurd e)
     (λ fit. turn_asks setup s.clock fresh (kind_in s.phase) s.challenge s.task r Held (λ same. no_main hs s.clock fresh number address (kind_in s.phase) s.challenge r s.task.pending (main_kind s.phase) k.main.pending same is)))
-    (λ _. cond_both (is_allocated s.phase) _ _ (λ (x : Step). x.output ≡ asks r → Held)
-    (λ _. found (λ p. (IsBacked setup.server hs p × IsTidy p) × (IsHeld until number address p → Held)) (is_next (is_free s.peers) s.clock) (λ o. (option_map_or (turns_peer setup fresh (is_free s.peers) s) o (keeps s)).output ≡ asks r → Held) (λ e. absurd cc) s.peers
-    (λ p next b. cond_both (is_expired s.clock p.task) _ _ (λ (o : Output). o ≡ asks r → Held) (λ _ e. absurd cc)
-    (λ _. turn_asks setup s.clock fresh (kind_of p) s.challenge p.task r Held
-    (λ same. b.1 (peer_holds until number address hs s.clock fresh p s.challenge r p.task.pending (next_on (is_free s.peers) s.clock p next) b.0.1 b.0.1.binds b.0.0.pending same is))))
+    (λ _. cond_both (is_allocated s.phase) _ _ (λ (x : Step). AsksFor r x.output → Held)
+    (λ _. found (λ p. (IsBacked setup.server hs p × IsTidy p) × (IsHeld until number address p → Held)) (is_next (is_free s.peers) s.clock) (λ o. AsksFor r (option_map_or (turns_peer setup fresh (is_free s.peers) s) o (keeps s)).output → Held) (λ e. absurd e) s.peers
+    (λ p next b asked. elim (turn_parts setup fresh (is_free s.peers) s p r asked) [
+      | inl same ↦ b.1 (peer_holds until number address hs s.clock fresh p s.challenge r (own_task p).pending (next_on (is_free s.peers) s.clock p next) b.0.1
+          (own_pending (λ o. option_map_or (λ (q : Pending). is_bind q.request.kind) o false ≡ true → p.wanted ≡ true) p (λ e. absurd (false≢true e)) b.0.1.binds) (own_pending (IsPending hs p.address p.number) p tt b.0.0.pending) same is)
+      | inr some ↦ some_out (λ e. r ≡ Wanted s.clock fresh s.challenge e) Held (λ e wanted. let k : Permit e ≡ Bind number address = sym (ap (λ (x : Request). x.kind) wanted) ∙ is in absurd cc) (others_at setup fresh (is_free s.peers) (takes_along setup s.clock s.peers p) s) some
+    ])
     (each_pair (λ p. IsBacked setup.server hs p × IsTidy p) (λ p. IsHeld until number address p → Held) s.peers (each_pair (IsBacked setup.server hs) IsTidy s.peers k.each tidy) (among (IsHeld until number address) s.peers)))
-    (λ _ e. absurd cc)) out
+    (λ _ e. absurd e)) out
 
-run_holds : (setup : Setup) (earlier : List Timed) (timed : Timed) (until number : ℕ) (address : Endpoint) (r : Request) → (happening setup (run setup earlier) timed).output ≡ asks r → r.kind ≡ Bind number address → AnyOf (IsHeld until number address) (run setup earlier).peers
+run_holds : (setup : Setup) (earlier : List Timed) (timed : Timed) (until number : ℕ) (address : Endpoint) (r : Request) → AsksFor r (happening setup (run setup earlier) timed).output → r.kind ≡ Bind number address → AnyOf (IsHeld until number address) (run setup earlier).peers
 run_holds setup earlier timed until number address r e is =
     let k = run_kept setup earlier in
     let s = at timed.now (run setup earlier) in
     let h = happening setup (run setup earlier) timed in
-    let right = subst (IsRight setup (history setup earlier) h.moment h.event) e (run_right setup earlier timed) in
-    polled_holds until number address setup timed.fresh (history setup earlier) s r (record { main = k.main; each = k.each }) (run_tidy setup earlier) (ap (λ (v : Event). (happens setup timed.fresh s v).output) (sym right.0) ∙ e) is
+    let poll = asked_polls setup (history setup earlier) h.moment h.event h.output r (run_right setup earlier timed) e in
+    polled_holds until number address setup timed.fresh (history setup earlier) s r (record { main = k.main; each = k.each }) (run_tidy setup earlier) (subst (λ (v : Event). AsksFor r (happens setup timed.fresh s v).output) poll e) is
 
 -- ---- In a run
 
 -- a request for this channel of this very peer was sent at a moment
 record Binding (number : ℕ) (address : Endpoint) (moment : ℕ) (h : Happening) : Type 0 where
   request : Request
-  sent : h.output ≡ asks request
+  others : List Endpoint
+  sent : h.output ≡ asks request others
   kind : request.kind ≡ Bind number address
   moment_is : h.moment ≡ moment
 
@@ -164,7 +171,7 @@ run_reserved setup (timed ∷ earlier) number moment address some =
     let until = moment + seconds 900 in
     let same = happens_clock setup timed.fresh s timed.event in
     let at_it : Reserving until number moment address s = elim some [
-      | inl now ↦ let moment_is = now.moment_is in record { reserved = inr (run_holds setup earlier timed until number address now.request now.sent now.kind); before = omega (arith, moment_is) }
+      | inl now ↦ let moment_is = now.moment_is in record { reserved = inr (run_holds setup earlier timed until number address now.request (subst (AsksFor now.request) (sym now.sent) (inl refl)) now.kind); before = omega (arith, moment_is) }
       | inr more ↦
           let r = run_reserved setup earlier number moment address more in
           let before = r.before in
@@ -179,7 +186,7 @@ run_reserved setup (timed ∷ earlier) number moment address some =
 
 binding_at : (number now : ℕ) (address : Endpoint) (hs : List Happening) → Happened (Asked number address now) hs → (moment : ℕ) × (now < moment + seconds 900) × Happened (Binding number address moment) hs
 binding_at number now address [] some = absurd some
-binding_at number now address (h ∷ hs) (inl a) = (h.moment, a.recent, inl (record { request = a.request; sent = a.sent; kind = a.kind; moment_is = refl }))
+binding_at number now address (h ∷ hs) (inl a) = (h.moment, a.recent, inl (record { request = a.request; others = a.others; sent = a.sent; kind = a.kind; moment_is = refl }))
 binding_at number now address (h ∷ hs) (inr some) = let b = binding_at number now address hs some in (b.0, b.1, inr b.2)
 
 held_number : (until number : ℕ) (address : Endpoint) (p : Peer) → IsHeld until number address p → IsNumbered number address p
@@ -195,11 +202,11 @@ still_numbered setup earlier next number address some =
       | inr held ↦ any_each (IsHeld (b.0 + seconds 900) number address) (IsNumbered number address) (held_number (b.0 + seconds 900) number address) (run setup earlier).peers held
     ]
 
-pub requests_rest : (setup : Setup) (earlier : List Timed) (next : Timed) (request : Request) (number : ℕ) (peer other : Endpoint) → Happened (Asked number peer (happening setup (run setup earlier) next).moment) (history setup earlier)
-    → (happening setup (run setup earlier) next).output ≡ asks request → request.kind ≡ Bind number other → other ≡ peer
-requests_rest setup earlier next request number peer other some sent kind =
+pub requests_rest : (setup : Setup) (earlier : List Timed) (next : Timed) (request : Request) (others : List Endpoint) (number : ℕ) (peer other : Endpoint) → Happened (Asked number peer (happening setup (run setup earlier) next).moment) (history setup earlier)
+    → (happening setup (run setup earlier) next).output ≡ asks request others → request.kind ≡ Bind number other → other ≡ peer
+requests_rest setup earlier next request others number peer other some sent kind =
     one_peer number other peer (run setup earlier).peers (run_numbered setup earlier)
-    (any_each (IsHeld 0 number other) (IsNumbered number other) (held_number 0 number other) (run setup earlier).peers (run_holds setup earlier next 0 number other request sent kind))
+    (any_each (IsHeld 0 number other) (IsNumbered number other) (held_number 0 number other) (run setup earlier).peers (run_holds setup earlier next 0 number other request (subst (AsksFor request) (sym sent) (inl refl)) kind))
     (still_numbered setup earlier next number peer some)
 
 heard_numbered : (number : ℕ) (other : Endpoint) (bytes : List ℕ) (setup : Setup) (from : Endpoint) (s : State) → (happens setup 0 s (gives_on from number bytes)).output ≡ shows other bytes → AnyOf (IsNumbered number other) s.peers
@@ -238,7 +245,9 @@ listed_keep : (setup : Setup) (number : ℕ) (address : Endpoint) → PeersKeep 
 listed_keep setup number address = let listed = IsListed number address in record {
   mapped = λ change same calm ps. any_map listed listed change (λ p. same_listed number address p (change p) (same p)) ps;
   changed = λ test change same calm ps. any_changed listed test change (λ p. same_listed number address p (change p) (same p)) ps;
-  turned = λ c fresh challenge ps. any_changed listed (is_next (is_free ps) c) (turned_of setup c fresh challenge) (λ p. same_listed number address p (turned_of setup c fresh challenge p) (turned_same setup c fresh challenge p)) ps;
+  changed_all = λ test change same calm ps. any_changed_each listed test change (λ p. same_listed number address p (change p) (same p)) ps;
+  turned = λ along c fresh challenge ps. any_changed listed (is_next (is_free ps) c) (turned_of along setup c fresh challenge) (λ p. same_listed number address p (turned_of along setup c fresh challenge p) (turned_same along setup c fresh challenge p)) ps;
+  joins = λ c fresh challenge ps. any_changed listed (is_fit c) (turned_of true setup c fresh challenge) (λ p. same_listed number address p (turned_of true setup c fresh challenge p) (turned_same true setup c fresh challenge p)) ps;
 }
 
 -- a change of others

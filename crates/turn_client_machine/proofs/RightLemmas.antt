@@ -6,15 +6,16 @@ use Rattle.std.specs.Option.{option_map_or}
 use Rattle.std.specs.Prelude.{◌==◌, nat_lt, if◌then◌else◌}
 use Rattle.std.proofs.lemmas.Bool.{cond_both, and_parts, and_from, or_cases, true≢false}
 use Rattle.stun_endpoints.proofs.AddressesLemmas.{endpoint_same, ip_same}
-use Rattle.turn_client_machine.specs.Clients.{Ip, Endpoint, is_ip, is_endpoint, Setup, Kind, Allocate, Refresh, Delete, Permit, Bind, Pending, Phase, Task, Peer, State, is_allocated, is_active, is_peer, is_permitted, has_channel, is_bind, is_binding, hears, seconds}
-use Rattle.turn_client_machine.specs.Events.{Event, allocates, permits, binds, drops, sends, closes, responds, gives, gives_on, strays, polls, send_to, send_on, shows, nothing}
+use Rattle.turn_client_machine.specs.Clients.{Ip, Endpoint, is_ip, is_endpoint, Setup, Kind, Allocate, Refresh, Delete, Permit, Bind, Pending, Phase, Task, Peer, State, is_allocated, is_active, is_peer, is_permitted, has_channel, is_bind, is_binding, hears, seconds, Request}
+use Rattle.turn_client_machine.specs.Events.{Event, allocates, permits, binds, drops, sends, closes, responds, gives, gives_on, strays, polls, send_to, send_on, shows, nothing, Output, asks}
 use Rattle.turn_client_machine.specs.Tasks.{request_now, may_send, is_due, is_expired, turn_output}
-use Rattle.turn_client_machine.specs.Steps.{Step, keeps, at, is_ready, sent_by, kind_in, kind_of, turns_peer, polled, happens, is_next, is_free}
+use Rattle.turn_client_machine.specs.Steps.{Step, keeps, at, is_ready, sent_by, kind_in, kind_of, turns_peer, polled, happens, is_next, is_free, takes_along, others_at, own_task, most_others, turned_first}
 use Rattle.turn_client_machine.specs.Runs.{Timed, Happening, run, happening, history, Happened}
-use Rattle.turn_client_machine.specs.Warrants.{Confirmed, Lasts, Permits, Binds, NamesPeer, IsPermitted, IsBound, IsAskedFor, IsWanted, IsRight}
-use Rattle.turn_client_machine.proofs.ListsLemmas.{found}
+use Rattle.turn_client_machine.specs.Warrants.{Confirmed, Lasts, Permits, Binds, NamesPeer, IsPermitted, IsBound, IsAskedFor, IsWanted, IsRight, AsksFor}
+use Rattle.turn_client_machine.proofs.ListsLemmas.{found, each_map}
 use Rattle.turn_client_machine.proofs.Backed.{LastsUntil, PermitsUntil, BindsUntil, IsPending, IsBacked, is_main, WasSent, IsBackedMain, confirmed_map}
 use Rattle.turn_client_machine.proofs.BackedLemmas.{kind_is, main_kind, IsKept, run_kept}
+use Rattle.turn_client_machine.proofs.JoiningLemmas.{own_pending, others_each, IfOn, turned_each}
 
 -- some element passes
 pub any_of : {X : Type 0} (P : X → Type 0) (test : X → Bool) (R : Type 0) → (xs : List X) → ((x : X) → test x ≡ true → P x → R) → list_any test xs ≡ true → AllByRecursion P xs → R
@@ -112,8 +113,8 @@ given_on_right setup hs from number bytes state k =
 
 -- ---- Time
 
-turn_right : (setup : Setup) (hs : List Happening) (now clock fresh : ℕ) (kind : Kind) (challenge : Option ℕ) (t : Task) → IsWanted hs (request_now clock fresh kind challenge t).kind → IsRight setup hs now polls (turn_output setup clock fresh kind challenge t)
-turn_right setup hs now clock fresh kind challenge t wanted = cond_both (may_send setup t) _ _ (IsRight setup hs now polls) (λ _. (refl, wanted)) (λ _. tt)
+turn_right : (setup : Setup) (hs : List Happening) (now clock fresh : ℕ) (kind : Kind) (challenge : Option ℕ) (others : List Endpoint) (t : Task) → IsWanted hs (request_now clock fresh kind challenge t).kind → AllByRecursion (λ e. Happened (NamesPeer e) hs) others → IsRight setup hs now polls (turn_output setup clock fresh kind challenge others t)
+turn_right setup hs now clock fresh kind challenge others t wanted each = cond_both (may_send setup t) _ _ (IsRight setup hs now polls) (λ _. (refl, wanted, each)) (λ _. tt)
 
 wanted_of : (hs : List Happening) (address : Endpoint) (number : ℕ) (kind : Kind) → (kind ≡ Permit address) ⊎ (kind ≡ Bind number address) → Happened (NamesPeer address) hs → IsWanted hs kind
 wanted_of hs address number kind (inl is) named = subst (IsWanted hs) (sym is) named
@@ -139,15 +140,19 @@ main_wanted_now hs clock fresh kind challenge (Some q) is sent = main_wanted hs 
 peer_right : (setup : Setup) (hs : List Happening) (now fresh : ℕ) (state : State) → IsKept setup hs state → IsRight setup hs now polls (option_map_or (turns_peer setup fresh (is_free state.peers) state) (find (is_next (is_free state.peers) state.clock) state.peers) (keeps state)).output
 peer_right setup hs now fresh state k = found (IsBacked setup.server hs) (is_next (is_free state.peers) state.clock) (λ o. IsRight setup hs now polls (option_map_or (turns_peer setup fresh (is_free state.peers) state) o (keeps state)).output) tt state.peers
     (λ p is b. cond_both (is_expired state.clock p.task) _ _ (IsRight setup hs now polls) (λ _. tt)
-    (λ _. turn_right setup hs now state.clock fresh (kind_of p) state.challenge p.task
-    (wanted_now hs state.clock fresh p.address p.number (kind_of p) state.challenge p.task.pending (kind_is p) b.named b.pending))) k.each
+    (λ _. let along = takes_along setup state.clock state.peers p in
+    let Named = λ (e : Endpoint). Happened (NamesPeer e) hs in
+    turn_right setup hs now state.clock fresh (kind_of p) state.challenge (others_at setup fresh (is_free state.peers) along state) (own_task p)
+    (wanted_now hs state.clock fresh p.address p.number (kind_of p) state.challenge (own_task p).pending (kind_is p) b.named (own_pending (IsPending hs p.address p.number) p tt b.pending))
+    (others_each Named setup state.clock fresh state.challenge (most_others setup along) (turned_first setup fresh (is_free state.peers) along state)
+    (turned_each Named along setup state.clock fresh state.challenge (is_next (is_free state.peers) state.clock) state.peers (each_map (IsBacked setup.server hs) (IfOn Named) (λ q backed _. backed.named) state.peers k.each))))) k.each
 
 polled_right : (setup : Setup) (hs : List Happening) (now fresh : ℕ) (state : State) → IsKept setup hs state → IsRight setup hs now polls (polled setup fresh state).output
 polled_right setup hs now fresh state k =
     cond_both (is_active state.phase && is_due state.clock state.task) _ _ (λ (s : Step). IsRight setup hs now polls s.output)
     (λ _. cond_both (is_expired state.clock state.task) _ _ (λ (s : Step). IsRight setup hs now polls s.output) (λ _. tt)
-    (λ _. turn_right setup hs now state.clock fresh (kind_in state.phase) state.challenge state.task
-    (main_wanted_now hs state.clock fresh (kind_in state.phase) state.challenge state.task.pending (main_kind state.phase) k.main.pending)))
+    (λ _. turn_right setup hs now state.clock fresh (kind_in state.phase) state.challenge [] state.task
+    (main_wanted_now hs state.clock fresh (kind_in state.phase) state.challenge state.task.pending (main_kind state.phase) k.main.pending) tt))
     (λ _. cond_both (is_allocated state.phase) _ _ (λ (s : Step). IsRight setup hs now polls s.output)
     (λ _. peer_right setup hs now fresh state k) (λ _. tt))
 
@@ -171,3 +176,11 @@ pub run_right : (setup : Setup) (earlier : List Timed) (timed : Timed)
     → IsRight setup (history setup earlier) (happening setup (run setup earlier) timed).moment (happening setup (run setup earlier) timed).event (happening setup (run setup earlier) timed).output
 run_right setup earlier timed = let k = run_kept setup earlier in
     happens_right setup timed.fresh (history setup earlier) (at timed.now (run setup earlier)) timed.event (record { main = k.main; each = k.each })
+
+-- only polls ask for something
+pub asked_polls : (setup : Setup) (hs : List Happening) (now : ℕ) (event : Event) (o : Output) (r : Request) → IsRight setup hs now event o → AsksFor r o → event ≡ polls
+asked_polls setup hs now event (asks first others) r right asked = right.0
+asked_polls setup hs now event (send_to peer bytes) r right asked = absurd asked
+asked_polls setup hs now event (send_on number bytes) r right asked = absurd asked
+asked_polls setup hs now event (shows peer bytes) r right asked = absurd asked
+asked_polls setup hs now event nothing r right asked = absurd asked

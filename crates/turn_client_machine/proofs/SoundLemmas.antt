@@ -1,5 +1,5 @@
 -- What is asked for is asked for in time.
-use Rattle.std.proofs.Common.{◌≡◌, ℕ, ◌+◌, ◌≤◌, ◌<◌, true, false, List, [], ◌∷◌, Option, None, Some, refl, arith}
+use Rattle.std.proofs.Common.{◌≡◌, ℕ, ◌+◌, ◌≤◌, ◌<◌, true, false, List, [], ◌∷◌, Option, None, Some, refl, arith, Bool}
 use Rattle.std.specs.List.{AllByRecursion}
 use Rattle.std.specs.Option.{option_map_or}
 use Rattle.std.proofs.lemmas.Bool.{cond_both}
@@ -7,7 +7,7 @@ use Rattle.turn_client_machine.specs.Clients.{seconds, Setup, Kind, Allocate, Re
 use Rattle.turn_client_machine.specs.Events.{Event}
 use Rattle.turn_client_machine.specs.Tasks.{kept_task, may_retry, is_expired, may_send, turned}
 use Rattle.turn_client_machine.specs.Responses.{asks_instead, restarted, granted_by, given_up, turned_down, challenged, noted}
-use Rattle.turn_client_machine.specs.Steps.{at, wanting, kind_in, kind_of, turned_of}
+use Rattle.turn_client_machine.specs.Steps.{at, wanting, kind_in, kind_of, turned_of, own_task}
 use Rattle.turn_client_machine.specs.Runs.{Timed, run}
 use Rattle.turn_client_machine.specs.Lasting.{IsInTime, Holds, IsAlive}
 use Rattle.turn_client_machine.proofs.Keeping.{PeerChanges, happens_each, MainChanges, Main, happens_main}
@@ -65,11 +65,11 @@ turned_down_sound clock code p s = cond_both (asks_instead code p) _ _ IsSound (
 challenged_sound : (setup : Setup) (challenge : Option ℕ) (clock code : ℕ) (p : Peer) → IsSound p → IsSound (challenged setup challenge clock code p)
 challenged_sound setup challenge clock code p s = cond_both (may_retry setup challenge code p.task) _ _ IsSound (λ _. record { order = omega (arith); spare = s.spare }) (λ _. given_up_sound code p s)
 
-turned_sound : (setup : Setup) (clock fresh : ℕ) (challenge : Option ℕ) (p : Peer) → IsSound p → IsSound (turned_of setup clock fresh challenge p)
-turned_sound setup clock fresh challenge p s = cond_both (is_expired clock p.task) _ _ IsSound (λ _. given_up_sound 0 p s)
+turned_sound : (along : Bool) (setup : Setup) (clock fresh : ℕ) (challenge : Option ℕ) (p : Peer) → IsSound p → IsSound (turned_of along setup clock fresh challenge p)
+turned_sound along setup clock fresh challenge p s = cond_both (is_expired clock p.task) _ _ IsSound (λ _. given_up_sound 0 p s)
     (λ _. record {
-      order = turned_due setup clock fresh (kind_of p) challenge p.task s.order;
-      spare = λ over some. let spare = s.spare over some in let same = turned_deadline setup clock fresh (kind_of p) challenge p.task in omega (arith, spare, same);
+      order = turned_due setup clock fresh (kind_of p) challenge (own_task p) s.order;
+      spare = λ over some. let spare = s.spare over some in let same = turned_deadline setup clock fresh (kind_of p) challenge (own_task p) in omega (arith, spare, same);
     })
 
 sound_changes : (setup : Setup) (fresh : ℕ) (state : State) (event : Event) → PeerChanges IsSound setup fresh state event
@@ -84,7 +84,7 @@ sound_changes setup fresh state event = record {
   turns_down = λ p id code genuine _ _ s. turned_down_sound state.clock code p s;
   challenges_it = λ p is _ _ s. challenged_sound setup state.challenge state.clock is.code p s;
   violates_it = λ p is _ _ s. cond_both setup.is_reliable _ _ IsSound (λ _. given_up_sound 0 (noted p) (record { order = s.order; spare = s.spare })) (λ _. record { order = s.order; spare = s.spare });
-  turns_it = λ p is _ out s. turned_sound setup state.clock fresh state.challenge p s;
+  turns_it = λ p along is _ out s. turned_sound along setup state.clock fresh state.challenge p s;
 }
 
 -- ---- The allocation

@@ -5,15 +5,17 @@ use Rattle.std.specs.Option.{option_map_or}
 use Rattle.std.specs.Prelude.{◌==◌, nat_lt}
 use Rattle.std.proofs.lemmas.Bool.{cond_both, and_parts, true≢false, and_from}
 use Rattle.stun_endpoints.proofs.AddressesLemmas.{endpoint_same, endpoint_is_itself}
-use Rattle.turn_client_machine.proofs.ListsLemmas.{found_some}
+use Rattle.turn_client_machine.proofs.ListsLemmas.{Within, each_changed}
 use Rattle.turn_client_machine.specs.Clients.{Endpoint, is_endpoint, Setup, Kind, Allocate, Refresh, Delete, Permit, Bind, Request, Pending, End, Closed, Silent, Rejected, Moved, Useless, Peer, State, is_allocated, is_active, IntegrityViolated, is_peer, is_dropped}
 use Rattle.turn_client_machine.specs.Events.{Event, allocates, permits, binds, drops, sends, closes, responds, gives, gives_on, strays, polls, Refused, Challenged, Violated, Answer}
 use Rattle.turn_client_machine.specs.Tasks.{is_due, is_expired, turned, may_retry}
 use Rattle.turn_client_machine.specs.Responses.{asks_instead, changed_first, granted_by, given_up, awaits_of}
-use Rattle.turn_client_machine.specs.Steps.{Step, keeps, at, wanting, kind_of, turned_of, turns_peer, polled, happens, step, is_next, is_free}
+use Rattle.turn_client_machine.specs.Steps.{Step, keeps, at, wanting, kind_of, turned_of, turns_peer, polled, happens, step, is_next, is_free, own_task, takes_along, is_fit, most_others, turned_first}
 use Rattle.turn_client_machine.specs.Lasting.{is_refusal, IsOn, IsOpen, gives_up}
 use Rattle.turn_client_machine.specs.Attempts.{Attempt, begun_attempt, next_at, next_by, next_attempt, AreNext}
 use Rattle.turn_client_machine.proofs.Keeping.{PeerChanges, happens_each}
+use Rattle.turn_client_machine.proofs.NumbersLemmas.{joined_keeps}
+use Rattle.turn_client_machine.proofs.JoiningLemmas.{fit_parts}
 
 granted_on : (address : Endpoint) (r : Request) (kind : Kind) (p : Peer) → IsOn address p → IsOn address (granted_by r kind p)
 granted_on address r Allocate p on = on
@@ -34,11 +36,11 @@ same_endpoint a b c one two = subst (λ (e : Endpoint). is_endpoint a e ≡ true
 
 -- what isn't a refusal of the peer doesn't give it up
 pub refusing : {R : Type 0} (setup : Setup) (address : Endpoint) (state : State) (event : Event) (from : Endpoint) (id : ℕ) (authentic : Bool) (answer : Answer) (p : Peer) → event ≡ responds from id authentic answer → is_refusal setup address state event ≡ false
-    → awaits_of id p ≡ true → find (awaits_of id) state.peers ≡ Some p → is_peer address p ≡ true → gives_up setup state authentic answer p ≡ true → R
+    → awaits_of id p ≡ true → Within state.peers p → is_peer address p ≡ true → gives_up setup state authentic answer p ≡ true → R
 refusing setup address state event from id authentic answer p event_is harmless awaited found here bad =
     let good : Peer → Bool = λ q. is_peer address q && (awaits_of id q && gives_up setup state authentic answer q) in
     let both = and_from (is_peer address p) (awaits_of id p && gives_up setup state authentic answer p) here (and_from (awaits_of id p) (gives_up setup state authentic answer p) awaited bad) in
-    let any : list_any good state.peers ≡ true = found_some (awaits_of id) good p state.peers found both in
+    let any : list_any good state.peers ≡ true = found good both in
     absurd (true≢false (sym any ∙ (ap (is_refusal setup address state) (sym event_is) ∙ harmless)))
 
 on_changes : (address : Endpoint) (setup : Setup) (fresh : ℕ) (state : State) (event : Event) → is_refusal setup address state event ≡ false → (event ≡ polls → ⊥) → PeerChanges (IsOn address) setup fresh state event
@@ -56,27 +58,34 @@ on_changes address setup fresh state event harmless timeless = record {
       (λ isnt here. refusing setup address state event is.from is.id is.authentic (Challenged is.code is.challenge) p is.event_is harmless awaited found here (ap not isnt));
   violates_it = λ p is awaited found on. cond_both setup.is_reliable _ _ (IsOn address)
       (λ reliable here. refusing setup address state event is.from is.id is.authentic Violated p is.event_is harmless awaited found here reliable) (λ _. on);
-  turns_it = λ p is _ out on. absurd (timeless is);
+  turns_it = λ p along is _ out on. absurd (timeless is);
 }
 
 -- ---- Polls
 
-changed_on : (address : Endpoint) (setup : Setup) (clock fresh : ℕ) (challenge : Option ℕ) (test : Peer → Bool) (ps : List Peer) → AllByRecursion (IsOpen address clock) ps → AllByRecursion (IsOn address) ps
-    → AllByRecursion (IsOn address) (changed_first test (turned_of setup clock fresh challenge) ps)
-changed_on address setup clock fresh challenge test [] opens on = tt
-changed_on address setup clock fresh challenge test (p ∷ ps) opens on =
+changed_on : (along : Bool) (address : Endpoint) (setup : Setup) (clock fresh : ℕ) (challenge : Option ℕ) (test : Peer → Bool) (ps : List Peer) → AllByRecursion (IsOpen address clock) ps → AllByRecursion (IsOn address) ps
+    → AllByRecursion (IsOn address) (changed_first test (turned_of along setup clock fresh challenge) ps)
+changed_on along address setup clock fresh challenge test [] opens on = tt
+changed_on along address setup clock fresh challenge test (p ∷ ps) opens on =
     cond_both (test p) _ _ (AllByRecursion (IsOn address))
     (λ _. (
-      cond_both (is_expired clock p.task) (given_up 0 p) (record p { task = turned setup clock fresh (kind_of p) challenge p.task }) (IsOn address)
+      cond_both (is_expired clock p.task) (given_up 0 p) (record p { task = turned setup clock fresh (kind_of p) challenge (own_task p); shared = along }) (IsOn address)
           (λ late here. absurd (true≢false (sym late ∙ opens.0 here))) (λ _. on.0),
       on.1,
     ))
-    (λ _. (on.0, changed_on address setup clock fresh challenge test ps opens.1 on.1))
+    (λ _. (on.0, changed_on along address setup clock fresh challenge test ps opens.1 on.1))
 
 found_on : (address : Endpoint) (setup : Setup) (fresh : ℕ) (state : State) (o : Option Peer) → AllByRecursion (IsOpen address state.clock) state.peers → AllByRecursion (IsOn address) state.peers
     → AllByRecursion (IsOn address) (option_map_or (turns_peer setup fresh (is_free state.peers) state) o (keeps state)).state.peers
 found_on address setup fresh state None opens on = on
-found_on address setup fresh state (Some p) opens on = changed_on address setup state.clock fresh state.challenge (is_next (is_free state.peers) state.clock) state.peers opens on
+found_on address setup fresh state (Some p) opens on =
+    let along = takes_along setup state.clock state.peers p in
+    joined_keeps (AllByRecursion (IsOn address)) setup state.clock fresh state.challenge
+    (λ ps each. each_changed (IsOn address) (is_fit state.clock) (turned_of true setup state.clock fresh state.challenge) ps
+    (λ q fit _ one. cond_both (is_expired state.clock q.task) (given_up 0 q) (record q { task = turned setup state.clock fresh (kind_of q) state.challenge (own_task q); shared = true }) (IsOn address)
+    (λ late. absurd (true≢false (sym late ∙ (fit_parts state.clock q fit).early))) (λ _. one)) each)
+    (most_others setup along) (turned_first setup fresh (is_free state.peers) along state)
+    (changed_on along address setup state.clock fresh state.challenge (is_next (is_free state.peers) state.clock) state.peers opens on)
 
 polled_on : (address : Endpoint) (setup : Setup) (fresh : ℕ) (state : State) → AllByRecursion (IsOpen address state.clock) state.peers → AllByRecursion (IsOn address) state.peers → AllByRecursion (IsOn address) (polled setup fresh state).state.peers
 polled_on address setup fresh state opens on =

@@ -3,16 +3,17 @@
 use Rattle.std.proofs.Common.{◌≡◌, ℕ, Bool, true, false, not, ◌||◌, List, [], ◌∷◌, Option, None, Some, map, refl, sym, ap, subst, ◌∙◌}
 use Rattle.std.specs.List.{AllByRecursion, list_any}
 use Rattle.std.specs.Option.{option_map_or}
-use Rattle.std.specs.Prelude.{◌==◌}
+use Rattle.std.specs.Prelude.{◌==◌, if◌then◌else◌}
 use Rattle.std.proofs.lemmas.Bool.{cond_both, and_parts, and_from, or_from, or_parts, true≢false, false≢true, false_from_ne_true, not-true}
 use Rattle.stun_endpoints.proofs.AddressesLemmas.{endpoint_same, endpoint_is_itself}
 use Rattle.turn_client_machine.specs.Clients.{Endpoint, is_endpoint, Setup, Kind, Allocate, Refresh, Delete, Permit, Bind, Request, Pending, Task, Peer, State, is_peer, is_dropped, is_rested, is_bind, is_binding}
 use Rattle.turn_client_machine.specs.Events.{Event}
 use Rattle.turn_client_machine.specs.Tasks.{may_retry, may_send, is_due, is_expired}
-use Rattle.turn_client_machine.specs.Responses.{asks_instead, changed_first, granted_by, given_up, noted, awaits_of}
-use Rattle.turn_client_machine.specs.Steps.{at, wanting, replaced, dropped, is_listed, is_due_of, is_next, is_free, is_under_way, kind_of, turned_of}
+use Rattle.turn_client_machine.specs.Responses.{asks_instead, changed_first, granted_by, given_up, noted, awaits_of, changed_each}
+use Rattle.turn_client_machine.specs.Steps.{at, wanting, replaced, dropped, is_listed, is_due_of, is_next, is_free, kind_of, turned_of, is_fit, own_task, is_single}
 use Rattle.turn_client_machine.specs.Dropping.{IsGone}
 use Rattle.turn_client_machine.specs.Runs.{Timed, run}
+use Rattle.turn_client_machine.proofs.JoiningLemmas.{own_pending}
 use Rattle.turn_client_machine.proofs.Keeping.{PeerChanges, happens_each}
 use Rattle.turn_client_machine.proofs.NumbersLemmas.{turned_same, NamesKeep, PeersKeep, happens_peers}
 
@@ -49,6 +50,18 @@ once_changed test change same (p ∷ ps) once =
     (λ _. (subst (λ (e : Endpoint). list_any (is_peer e) ps ≡ false) (sym (same p)) once.0, once.1))
     (λ _. (known_changed p.address test change same ps ∙ once.0, once_changed test change same ps once.1))
 
+known_each : (address : Endpoint) (test : Peer → Bool) (change : Peer → Peer) → ((p : Peer) → (change p).address ≡ p.address) → (ps : List Peer) → list_any (is_peer address) (changed_each test change ps) ≡ list_any (is_peer address) ps
+known_each address test change same [] = refl
+known_each address test change same (p ∷ ps) =
+    ap (λ (b : Bool). b || list_any (is_peer address) (changed_each test change ps)) (cond_both (test p) (change p) p (λ (q : Peer). is_peer address q ≡ is_peer address p) (λ _. same_known address p (change p) (same p)) (λ _. refl))
+    ∙ ap (λ (b : Bool). is_peer address p || b) (known_each address test change same ps)
+
+once_each : (test : Peer → Bool) (change : Peer → Peer) → ((p : Peer) → (change p).address ≡ p.address) → (ps : List Peer) → AreOnce ps → AreOnce (changed_each test change ps)
+once_each test change same [] once = tt
+once_each test change same (p ∷ ps) once =
+    let one : (if test p then change p else p).address ≡ p.address = cond_both (test p) (change p) p (λ (q : Peer). q.address ≡ p.address) (λ _. same p) (λ _. refl) in
+    (subst (λ (e : Endpoint). list_any (is_peer e) (changed_each test change ps) ≡ false) (sym one) (known_each p.address test change same ps ∙ once.0), once_each test change same ps once.1)
+
 -- a new address is another
 other_address : (one address : Endpoint) → is_endpoint address one ≡ false → is_endpoint one address ≡ false
 other_address one address isnt = false_from_ne_true (is_endpoint one address)
@@ -74,7 +87,9 @@ once_keep : (setup : Setup) → PeersKeep setup AreOnce
 once_keep setup = record {
   mapped = λ change same calm. once_mapped change (λ p. (same p).1);
   changed = λ test change same calm. once_changed test change (λ p. (same p).1);
-  turned = λ clock fresh challenge ps. once_changed (is_next (is_free ps) clock) (turned_of setup clock fresh challenge) (λ p. (turned_same setup clock fresh challenge p).1) ps;
+  changed_all = λ test change same calm. once_each test change (λ p. (same p).1);
+  turned = λ along clock fresh challenge ps. once_changed (is_next (is_free ps) clock) (turned_of along setup clock fresh challenge) (λ p. (turned_same along setup clock fresh challenge p).1) ps;
+  joins = λ clock fresh challenge ps. once_changed (is_fit clock) (turned_of true setup clock fresh challenge) (λ p. (turned_same true setup clock fresh challenge p).1) ps;
 }
 
 once_named : (setup : Setup) (state : State) (event : Event) → NamesKeep setup state event AreOnce
@@ -130,17 +145,18 @@ binds_now p clock fresh challenge sends None wants binds =
     cond_both p.wants (Bind p.number p.address) (Permit p.address) (λ (k : Kind). is_bind k ≡ true → p.wanted ≡ true) (λ is _. wants is) (λ _ e. absurd (false≢true e))
 binds_now p clock fresh challenge sends (Some q) wants binds = binds
 
-turned_tidy : (setup : Setup) (clock fresh : ℕ) (challenge : Option ℕ) (p : Peer) → p.over ≡ false → IsTidy p → IsTidy (turned_of setup clock fresh challenge p)
-turned_tidy setup clock fresh challenge p on t =
+turned_tidy : (along : Bool) (setup : Setup) (clock fresh : ℕ) (challenge : Option ℕ) (p : Peer) → p.over ≡ false → IsTidy p → IsTidy (turned_of along setup clock fresh challenge p)
+turned_tidy along setup clock fresh challenge p on t =
     let not_dropped : is_dropped p ≡ true → ⊥ = λ d. true≢false (sym (t.gone d).over ∙ on) in
     cond_both (is_expired clock p.task) _ _ IsTidy (λ _. given_up_tidy 0 p t)
-    (λ _. cond_both (may_send setup p.task) _ _ (λ (s : Task). IsTidy (record p { task = s }))
-    (λ _. record { wants = t.wants; binds = binds_now p clock fresh challenge 0 p.task.pending t.wants t.binds; gone = λ d. absurd (not_dropped d) })
-    (λ _. record { wants = t.wants; binds = t.binds; gone = λ d. absurd (not_dropped d) }))
+    (λ _. let binds : option_map_or (λ (q : Pending). is_bind q.request.kind) (own_task p).pending false ≡ true → p.wanted ≡ true = own_pending (λ o. option_map_or (λ (q : Pending). is_bind q.request.kind) o false ≡ true → p.wanted ≡ true) p (λ is. absurd (false≢true is)) t.binds in
+    cond_both (may_send setup (own_task p)) _ _ (λ (s : Task). IsTidy (record p { task = s; shared = along }))
+    (λ _. record { wants = t.wants; binds = binds_now p clock fresh challenge 0 (own_task p).pending t.wants binds; gone = λ d. absurd (not_dropped d) })
+    (λ _. record { wants = t.wants; binds = binds; gone = λ d. absurd (not_dropped d) }))
 
 pub next_on : (free : Bool) (clock : ℕ) (p : Peer) → is_next free clock p ≡ true → p.over ≡ false
 next_on free clock p next =
-    not-true p.over (and_parts (not p.over) (is_due clock p.task) (and_parts (free || (is_under_way p || is_expired clock p.task)) (is_due_of clock p) next).1).0
+    not-true p.over (and_parts (not p.over) (is_due clock p.task) (and_parts (free || (is_single p || is_expired clock p.task)) (is_due_of clock p) next).1).0
 
 tidy_changes : (setup : Setup) (fresh : ℕ) (state : State) (event : Event) → PeerChanges IsTidy setup fresh state event
 tidy_changes setup fresh state event = record {
@@ -162,7 +178,7 @@ tidy_changes setup fresh state event = record {
   violates_it = λ p is awaited _ t.
       let same : IsTidy (noted p) = record { wants = t.wants; binds = t.binds; gone = λ d. awaits_none is.id p awaited (t.gone d).free } in
       cond_both setup.is_reliable _ _ IsTidy (λ _. given_up_tidy 0 (noted p) same) (λ _. same);
-  turns_it = λ p is next out t. turned_tidy setup state.clock fresh state.challenge p (next_on (is_free state.peers) state.clock p next) t;
+  turns_it = λ p along is on out t. turned_tidy along setup state.clock fresh state.challenge p on t;
 }
 
 pub run_tidy : (setup : Setup) (events : List Timed) → AllByRecursion IsTidy (run setup events).peers

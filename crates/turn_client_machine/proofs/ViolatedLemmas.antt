@@ -11,7 +11,7 @@ use Rattle.turn_client_machine.specs.Tasks.{awaits, is_due, is_expired}
 use Rattle.turn_client_machine.specs.Responses.{is_delete, ends, answered, given_up, noted, violated_by, awaits_of, answered_peer, answered_any}
 use Rattle.turn_client_machine.specs.Lasting.{is_lost}
 use Rattle.turn_client_machine.specs.Steps.{Step, at, silent_in, turns, keeps, step}
-use Rattle.turn_client_machine.proofs.RenewingLemmas.{any_first, found_any}
+use Rattle.turn_client_machine.proofs.RenewingLemmas.{any_first_each, found_any}
 
 own_violated : (setup : Setup) (state : State) (now fresh : ℕ) (authentic : Bool) (q : Pending) → is_active state.phase ≡ true → state.task.pending ≡ Some q
     → (step setup state now fresh (responds setup.server q.request.id authentic Violated)).state ≡ answered setup authentic Violated (at now state) q.request
@@ -66,4 +66,4 @@ peer_lost setup state now fresh id authentic p reliable phase other found =
     ∙ (cond-false (awaits id st.task) _ _ other
     ∙ cond-true (is_allocated st.phase && list_any (awaits_of id) st.peers) (answered_peer setup id authentic Violated st) st (and_from (is_allocated st.phase) (list_any (awaits_of id) st.peers) there (found_any (awaits_of id) p st.peers found))) in
     subst (λ (s : State). list_any (is_lost p.address) s.peers ≡ true) (sym it)
-    (any_first (awaits_of id) (is_lost p.address) (violated_by setup) p (lost setup p reliable) st.peers found)
+    (any_first_each (awaits_of id) (is_lost p.address) (violated_by setup) p (lost setup p reliable) st.peers found)

@@ -8,10 +8,12 @@ use Rattle.std.proofs.lemmas.Bool.{cond_both, cond-true, cond-false, and_parts, 
 use Rattle.turn_client_machine.specs.Clients.{Endpoint, is_endpoint, Setup, Kind, Request, Pending, Phase, Quiet, Asking, Allocated, Closing, Ended, Task, Peer, State, is_allocated, is_active, Refresh, Delete, Allocate, Permit, Bind, Useless, Rejected}
 use Rattle.turn_client_machine.specs.Events.{Answer, Opened, Extended, Done, Refused, Challenged, Redirected, Violated, Event, allocates, permits, binds, drops, sends, closes, responds, gives, gives_on, strays, polls}
 use Rattle.turn_client_machine.specs.Tasks.{is_due, is_expired, awaits, may_send, sends_so_far, turned, may_retry}
-use Rattle.turn_client_machine.specs.Responses.{changed_first, answered, answered_peer, awaits_of, responded, is_allocate, is_delete, deletes, is_long, is_useful, opened, extended, extended_by, ends, with_peer, turned_down}
-use Rattle.turn_client_machine.specs.Steps.{Step, keeps, at, begins, kind_in, is_due_of, kind_of, turned_of, turns_peer, polled, step, is_next, is_free, counted, is_under_way}
+use Rattle.turn_client_machine.specs.Responses.{changed_first, answered, answered_peer, awaits_of, responded, is_allocate, is_delete, deletes, is_long, is_useful, opened, extended, extended_by, ends, with_peers, turned_down}
+use Rattle.turn_client_machine.specs.Steps.{Step, keeps, at, begins, kind_in, is_due_of, kind_of, turned_of, turns_peer, polled, step, is_next, is_free, is_fit, counted, is_single, own_task, takes_along, turned_first, joined, most_others}
 use Rattle.turn_client_machine.specs.Lasting.{IsInTime, is_bad, IsReason}
 use Rattle.turn_client_machine.specs.Working.{dues}
+use Rattle.turn_client_machine.proofs.NumbersLemmas.{joined_keeps}
+use Rattle.turn_client_machine.proofs.AtOnceLemmas.{count_calm}
 
 -- ---- What was turned isn't due
 
@@ -25,9 +27,9 @@ turned_not_due setup clock fresh kind challenge t fit =
     (λ _. not_due clock (min t.deadline (clock + 1 + setup.wait (sends_so_far t + 1))) (omega (arith, late)))
     (λ _. not_due clock t.deadline (omega (arith, late)))
 
-turned_of_not_due : (setup : Setup) (clock fresh : ℕ) (challenge : Option ℕ) (p : Peer) → is_due_of clock (turned_of setup clock fresh challenge p) ≡ false
-turned_of_not_due setup clock fresh challenge p = cond_both (is_expired clock p.task) _ _ (λ (q : Peer). is_due_of clock q ≡ false) (λ _. refl)
-    (λ fit. and_right (not p.over) _ (turned_not_due setup clock fresh (kind_of p) challenge p.task fit))
+pub turned_of_not_due : (along : Bool) (setup : Setup) (clock fresh : ℕ) (challenge : Option ℕ) (p : Peer) → is_due_of clock (turned_of along setup clock fresh challenge p) ≡ false
+turned_of_not_due along setup clock fresh challenge p = cond_both (is_expired clock p.task) _ _ (λ (q : Peer). is_due_of clock q ≡ false) (λ _. refl)
+    (λ fit. and_right (not p.over) _ (turned_not_due setup clock fresh (kind_of p) challenge (own_task p) fit))
 
 -- ---- Counting
 
@@ -39,7 +41,7 @@ count_none test (x ∷ xs) is = ⊎_elim
     (cases_Bool (test x))
 
 -- one that passed a test, and is next, doesn't pass it afterwards
-count_changed : {X : Type 0} (test next : X → Bool) (change : X → X) → ((x : X) → next x ≡ true → test x ≡ true) → ((x : X) → test (change x) ≡ false) → (xs : List X) → (y : X) → find next xs ≡ Some y → counted test (changed_first next change xs) < counted test xs
+pub count_changed : {X : Type 0} (test next : X → Bool) (change : X → X) → ((x : X) → next x ≡ true → test x ≡ true) → ((x : X) → test (change x) ≡ false) → (xs : List X) → (y : X) → find next xs ≡ Some y → counted test (changed_first next change xs) < counted test xs
 count_changed test next change on off [] y is = absurd cc
 count_changed test next change on off (x ∷ xs) y is = cond_both (next x) (change x ∷ xs) (x ∷ changed_first next change xs) (λ ys. counted test ys < counted test (x ∷ xs))
     (λ here. let one : counted test (x ∷ xs) ≡ 1 + counted test xs = cond-true (test x) (1 + (counted test xs)) (counted test xs) (on x here) in
@@ -65,20 +67,24 @@ abbrev peers_due : State → ℕ
 peers_due state = if is_allocated state.phase then counted (is_due_of state.clock) state.peers else 0
 
 abbrev IsFewer : State → State → Type 0
-IsFewer after state = (dues after < dues state) ⊎ ((dues state ≡ 0) ⊎ (9 ≤ counted is_under_way state.peers))
+IsFewer after state = (dues after < dues state) ⊎ ((dues state ≡ 0) ⊎ (8 ≤ counted is_single state.peers))
 
--- nothing is next: nothing is due, or ten requests are under way
+-- nothing is next: nothing is due, or eight requests for single peers are under way
 nothing_next : (state : State) (free : Bool) → is_free state.peers ≡ free → find (is_next free state.clock) state.peers ≡ None → main_due state ≡ 0 → peers_due state ≡ counted (is_due_of state.clock) state.peers
-    → (dues state ≡ 0) ⊎ (9 ≤ counted is_under_way state.peers)
+    → (dues state ≡ 0) ⊎ (8 ≤ counted is_single state.peers)
 nothing_next state true free is none count = inl (let zero_of = count_none (is_due_of state.clock) state.peers is in omega (arith, none, count, zero_of))
-nothing_next state false free is none count = inr (ltb-false (counted is_under_way state.peers) 9 free)
+nothing_next state false free is none count = inr (ltb-false (counted is_single state.peers) 8 free)
 
 found_fewer : (setup : Setup) (fresh : ℕ) (state : State) (o : Option Peer) → find (is_next (is_free state.peers) state.clock) state.peers ≡ o → main_due state ≡ 0 → peers_due state ≡ counted (is_due_of state.clock) state.peers
     → is_allocated state.phase ≡ true → IsFewer (option_map_or (turns_peer setup fresh (is_free state.peers) state) o (keeps state)).state state
 found_fewer setup fresh state None is none count there = inr (nothing_next state (is_free state.peers) refl is none count)
 found_fewer setup fresh state (Some p) is none count there =
-    let less = count_changed (is_due_of state.clock) (is_next (is_free state.peers) state.clock) (turned_of setup state.clock fresh state.challenge) (λ p next. (and_parts (is_free state.peers || (is_under_way p || is_expired state.clock p.task)) (is_due_of state.clock p) next).1) (turned_of_not_due setup state.clock fresh state.challenge) state.peers p is in
-    let peers = changed_first (is_next (is_free state.peers) state.clock) (turned_of setup state.clock fresh state.challenge) state.peers in
+    let along = takes_along setup state.clock state.peers p in
+    let first = turned_first setup fresh (is_free state.peers) along state in
+    let peers = joined setup state.clock fresh state.challenge (most_others setup along) first in
+    let less_first : counted (is_due_of state.clock) first < counted (is_due_of state.clock) state.peers = count_changed (is_due_of state.clock) (is_next (is_free state.peers) state.clock) (turned_of along setup state.clock fresh state.challenge) (λ p next. (and_parts (is_free state.peers || (is_single p || is_expired state.clock p.task)) (is_due_of state.clock p) next).1) (turned_of_not_due along setup state.clock fresh state.challenge) state.peers p is in
+    let less : counted (is_due_of state.clock) peers < counted (is_due_of state.clock) state.peers = joined_keeps (λ ps. counted (is_due_of state.clock) ps < counted (is_due_of state.clock) state.peers) setup state.clock fresh state.challenge
+    (λ ps before. let le = count_calm (is_due_of state.clock) (is_fit state.clock) (turned_of true setup state.clock fresh state.challenge) (λ q _ due. absurd (true≢false (sym due ∙ turned_of_not_due true setup state.clock fresh state.challenge q))) ps in omega (arith, before, le)) (most_others setup along) first less_first in
     let count_after : peers_due (record state { peers = peers }) ≡ counted (is_due_of state.clock) peers = cond-true {A = ℕ} (is_allocated state.phase) (counted (is_due_of state.clock) peers) 0 there in
     inl (omega (arith, less, none, count, count_after))
 
@@ -150,7 +156,7 @@ peer_reason setup id authentic (Extended lifetime) state there gone = there_not 
 peer_reason setup id true Done state there gone = there_not (is_allocated state.phase) there gone
 peer_reason setup id false Done state there gone = there_not (is_allocated state.phase) there gone
 peer_reason setup id true (Refused code) state there gone =
-    cond_both (code == 437) (ends (Rejected 437) state) (with_peer id (turned_down state.clock code) state) (λ (s : State). is_allocated s.phase ≡ false → (awaits id state.task || (code == 437)) ≡ true)
+    cond_both (code == 437) (ends (Rejected 437) state) (with_peers id (turned_down state.clock code) state) (λ (s : State). is_allocated s.phase ≡ false → (awaits id state.task || (code == 437)) ≡ true)
     (λ is _. or_right (awaits id state.task) (code == 437) is) (λ _ gone. there_not (is_allocated state.phase) there gone) gone
 peer_reason setup id false (Refused code) state there gone = there_not (is_allocated state.phase) there gone
 peer_reason setup id authentic (Challenged code challenge) state there gone = there_not (is_allocated state.phase) there gone

@@ -1,9 +1,9 @@
 -- The limits of a client's state.
 use Rattle.std.specs.Prelude.{◌≤◌, length, ◌≡◌, ◌+◌, ◌<◌, ℕ, Bool, not, ◌&&◌, is_some, if◌then◌else◌, List, [], ◌∷◌}
-use Rattle.std.specs.List.{AllByRecursion}
+use Rattle.std.specs.List.{AllByRecursion, list_any}
 use Rattle.turn_client_machine.specs.Clients.{Ip, Endpoint, is_ip, Setup, Task, State, Peer, is_peer}
 use Rattle.turn_client_machine.specs.Tasks.{sends_so_far}
-use Rattle.turn_client_machine.specs.Steps.{counted, is_under_way}
+use Rattle.turn_client_machine.specs.Steps.{counted, is_single, is_together}
 
 -- The request under way was sent at most as often as the setup allows, and the server has asked
 -- for other credentials at most as often
@@ -31,7 +31,9 @@ has_named ip p = not p.over && is_ip ip p.address.ip
 abbrev pub has_wanted : Endpoint → Peer → Bool
 has_wanted peer p = is_peer peer p && (not p.over && p.wants)
 
--- the number of requests under way, for the allocation and for peers
+-- the number of requests under way: for the allocation, for single peers, and for several peers in
+-- one
 abbrev pub requests_at_once : State → ℕ
 requests_at_once state =
-    (if is_some state.task.pending then 1 else 0) + counted is_under_way state.peers
+    (if is_some state.task.pending then 1 else 0)
+    + (counted is_single state.peers + (if list_any is_together state.peers then 1 else 0))

@@ -25,7 +25,8 @@ pub use Rattle.turn_client_machine.specs.declared.phases.Phase.TheVariants.{Quie
 pub use Rattle.turn_client_machine.specs.declared.peers.Peer.{Peer}
 
 -- Set once, by the caller: the server; the address family to ask for, 1 for IPv4 or 2 for IPv6;
--- whether the transport is reliable, as TCP is; the most peers; the most sendings of one request,
+-- whether the transport is reliable, as TCP is; the most peers; the most peers that one
+-- CreatePermission request names; the most sendings of one request,
 -- and the wait after each (RFC 8489, 6.2.1 and 6.2.2); and how often the server may ask for other
 -- credentials before it accepts a request
 pub record Setup : Type 0 where
@@ -33,6 +34,7 @@ pub record Setup : Type 0 where
   pub family : ℕ
   pub is_reliable : Bool
   pub most_peers : ℕ
+  pub most_named : ℕ
   pub most_sends : ℕ
   pub most_retries : ℕ
   pub wait : ℕ → ℕ

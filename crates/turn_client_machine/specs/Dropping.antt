@@ -1,6 +1,6 @@
 -- What a peer is after the user has dropped it, and whose a channel number is.
 use Rattle.std.specs.Prelude.{◌≡◌, ℕ, ◌+◌, ◌<◌, Bool, true, false, ◌&&◌, not, ◌==◌, List, None}
-use Rattle.std.specs.List.{list_any}
+use Rattle.std.specs.List.{AllByRecursion, list_any}
 use Rattle.turn_client_machine.specs.Clients.{Endpoint, is_endpoint, seconds, Kind, Allocate, Refresh, Delete, Permit, Bind, Request, Peer, is_peer, is_dropped, is_permitted}
 use Rattle.turn_client_machine.specs.Events.{Event, permits, binds, sends, gives, Output, asks, send_to, send_on, shows, nothing}
 use Rattle.turn_client_machine.specs.Runs.{Timed, Happening}
@@ -36,7 +36,9 @@ is_shared now address peers =
 -- No request is for the peer, and no data goes to it or is shown from it, but in Send and Data
 -- indications, which another peer of its IP address lets through (9: ports are not considered)
 abbrev pub IsQuiet : Endpoint → (shared : Bool) → Event → Output → Type 0
-IsQuiet address shared event (asks r) = is_for address r.kind ≡ false
+IsQuiet address shared event (asks r others) =
+    (is_for address r.kind ≡ false)
+    × AllByRecursion (λ other. is_endpoint address other ≡ false) others
 IsQuiet address shared event (send_to peer bytes) = is_endpoint address peer ≡ true → shared ≡ true
 IsQuiet address shared event (send_on number bytes) = event ≡ sends address bytes → ⊥
 IsQuiet address shared event (shows peer bytes) = is_endpoint address peer ≡ true
@@ -46,7 +48,8 @@ IsQuiet address shared event nothing = Unit {0}
 -- within the last 900 seconds a request was sent for this channel to this very peer
 pub record Asked (number : ℕ) (peer : Endpoint) (now : ℕ) (h : Happening) : Type 0 where
   pub request : Request
-  pub sent : h.output ≡ asks request
+  pub others : List Endpoint
+  pub sent : h.output ≡ asks request others
   pub kind : request.kind ≡ Bind number peer
   pub recent : now < h.moment + seconds 900
 

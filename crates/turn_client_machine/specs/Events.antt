@@ -26,10 +26,11 @@ pub data Event : Type 0 where
   strays : (from : Endpoint) → Event
   polls : Event
 
--- One output for each event: a request to the server; a Send indication to a peer; ChannelData;
--- data of a peer, shown to the user; or nothing
+-- One output for each event: a request to the server, and the further peers that it names if it is a
+-- CreatePermission request (10.1); a Send indication to a peer; ChannelData; data of a peer, shown to the
+-- user; or nothing
 pub data Output : Type 0 where
-  asks : Request → Output
+  asks : Request → (others : List Endpoint) → Output
   send_to : Endpoint → List ℕ → Output
   send_on : (number : ℕ) → List ℕ → Output
   shows : Endpoint → List ℕ → Output

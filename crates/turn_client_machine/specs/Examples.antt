@@ -32,6 +32,7 @@ setup_1 = record {
   family = 1;
   is_reliable = false;
   most_peers = 4;
+  most_named = 8;
   most_sends = 7;
   most_retries = 3;
   wait = λ n. seconds n;
@@ -91,18 +92,18 @@ signed now r client s = record {
 }
 
 -- an unsigned request is challenged
-abbrev pub asked : (now : ℕ) → Request → (challenge : Option ℕ) → (client : State) → ServerState
-    → Both
-asked now r None client server = record {
+abbrev pub asked : (now : ℕ) → Request → (others : List Endpoint) → (challenge : Option ℕ)
+    → (client : State) → ServerState → Both
+asked now r others None client server = record {
   client = (step setup_1 client now 0 (responds server_1 r.id false (Challenged 401 1))).state;
   server = server;
 }
-asked now r (Some challenge) client server =
+asked now r others (Some challenge) client server =
     signed now r client
-    (s_step server_setup rules_1 server now (s_asks tuple_1 5 (request_of None r.id want_1 r.kind)))
+    (s_step server_setup rules_1 server now (s_asks tuple_1 5 (request_of None r.id want_1 others r.kind)))
 
 abbrev pub delivered : (now : ℕ) → Output → (client : State) → ServerState → Both
-delivered now (asks r) client server = asked now r r.challenge client server
+delivered now (asks r others) client server = asked now r others r.challenge client server
 delivered now (send_to peer bytes) client server = record { client = client; server = server }
 delivered now (send_on number bytes) client server = record { client = client; server = server }
 delivered now (shows peer bytes) client server = record { client = client; server = server }

@@ -13,17 +13,18 @@ use Rattle.turn_machine.specs.Works.{Reaches, output_of as output_there}
 use Rattle.turn_client_machine.specs.Clients.{Ip, Endpoint, seconds, Setup, Kind, Allocate, Refresh, Delete, Permit, Bind, Request, State, hears, Peer}
 use Rattle.turn_client_machine.specs.Events.{Answer, Opened, Extended, Done, Refused, Challenged, Redirected, Violated, Event, gives, gives_on, strays, Output, asks, send_to, send_on, shows, nothing}
 use Rattle.turn_client_machine.specs.Runs.{Happening}
-use Rattle.turn_client_machine.specs.Warrants.{Confirmed}
+use Rattle.turn_client_machine.specs.Warrants.{Confirmed, IsPartOf}
 
 -- The client's request as the server's event, with a LIFETIME in seconds or none. An Allocate
 -- request asks for one relayed address; the want has its family and the server's socket for it, if
 -- there is one
-abbrev pub request_of : (wanted : Option ℕ) → (id : ℕ) → Want → Kind → ServerRequest
-request_of wanted id want Allocate = s_allocate id wanted (want ∷ [])
-request_of wanted id want Refresh = s_refresh None wanted
-request_of wanted id want Delete = s_refresh None (Some 0)
-request_of wanted id want (Permit peer) = s_permit (peer ∷ [])
-request_of wanted id want (Bind number peer) = s_bind number peer
+abbrev pub request_of : (wanted : Option ℕ) → (id : ℕ) → Want → (others : List Endpoint) → Kind
+    → ServerRequest
+request_of wanted id want others Allocate = s_allocate id wanted (want ∷ [])
+request_of wanted id want others Refresh = s_refresh None wanted
+request_of wanted id want others Delete = s_refresh None (Some 0)
+request_of wanted id want others (Permit peer) = s_permit (peer ∷ others)
+request_of wanted id want others (Bind number peer) = s_bind number peer
 
 -- The server's response as the client's answer. Of several relayed addresses the client takes the
 -- first
@@ -38,7 +39,7 @@ answer_of mapped (s_refused code) = Refused code
 abbrev pub at_server : FiveTuple → Output → ServerEvent
 at_server tuple (send_to peer bytes) = s_sends tuple peer false bytes
 at_server tuple (send_on number bytes) = s_sends_on tuple number bytes
-at_server tuple (asks r) = s_ticks
+at_server tuple (asks r others) = s_ticks
 at_server tuple (shows peer bytes) = s_ticks
 at_server tuple nothing = s_ticks
 
@@ -50,7 +51,7 @@ at_client server (to_peer socket peer dont_fragment bytes) = strays server
 at_client server (to_client_icmp tuple peer icmp) = strays server
 at_client server s_nothing = strays server
 
--- The server answered this request so, no earlier than it was first sent. `shown` is what the
+-- The server answered the request that asks for this so, no earlier than it was first sent. `shown` is what the
 -- server's clock shows at each moment of the client's
 pub record Answers (shown : ℕ → ℕ) (tuple : FiveTuple) (user : ℕ) (r : Request) (answer : Answer)
     (h : ServerHappening) : Type 0 where
@@ -58,7 +59,10 @@ pub record Answers (shown : ℕ → ℕ) (tuple : FiveTuple) (user : ℕ) (r : R
   pub want : Want
   pub mapped : Endpoint
   pub given : ServerAnswer
-  pub asked : h.event ≡ s_asks tuple user (request_of wanted r.id want r.kind)
+  pub first : Request
+  pub others : List Endpoint
+  pub part : IsPartOf first others r
+  pub asked : h.event ≡ s_asks tuple user (request_of wanted first.id want others first.kind)
   pub answered : h.output ≡ s_answers tuple given
   pub same : answer ≡ answer_of mapped given
   pub after : shown r.since ≤ h.moment

@@ -18,3 +18,4 @@ pub mod Renewing
 pub mod Meetings
 pub mod Rounds
 pub mod Dropping
+pub mod Sharing

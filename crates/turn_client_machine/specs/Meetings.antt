@@ -36,11 +36,11 @@ requests_1 =
     record {
       now = 2;
       rules = rules_1;
-      event = s_asks tuple_1 5 (request_of None 102 want_1 request_2.kind);
+      event = s_asks tuple_1 5 (request_of None 102 want_1 [] request_2.kind);
     }
     ∷ record {
       now = 1;
       rules = rules_1;
-      event = s_asks tuple_1 5 (request_of None 101 want_1 request_1.kind);
+      event = s_asks tuple_1 5 (request_of None 101 want_1 [] request_1.kind);
     }
     ∷ []

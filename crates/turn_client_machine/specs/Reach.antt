@@ -14,7 +14,7 @@ use Rattle.turn_client_machine.specs.Clients.{Endpoint, is_ip, seconds, Setup, A
 use Rattle.turn_client_machine.specs.Events.{Output}
 use Rattle.turn_client_machine.specs.Lasting.{IsInTime}
 use Rattle.turn_client_machine.specs.Runs.{Happening, Happened}
-use Rattle.turn_client_machine.specs.Warrants.{Asks}
+use Rattle.turn_client_machine.specs.Warrants.{Asks, Sends}
 use Rattle.turn_client_machine.specs.Joined.{request_of, IsLinked, at_server}
 
 -- the happenings of a server since then, after earlier events
@@ -27,9 +27,10 @@ happened_since server (timed ∷ since) earlier =
 pub record IsOwn (shown : ℕ → ℕ) (wanted : Option ℕ) (hs : List Happening) (moment : ℕ)
     (request : ServerRequest) : Type 0 where
   pub r : Request
+  pub others : List Endpoint
   pub want : Want
-  pub sent : Happened (Asks r) hs
-  pub same : request ≡ request_of wanted r.id want r.kind
+  pub sent : Happened (Sends r others) hs
+  pub same : request ≡ request_of wanted r.id want others r.kind
   pub after : shown r.since ≤ moment
   pub soon : r.kind ≡ Allocate → moment < shown r.since + seconds 540
 

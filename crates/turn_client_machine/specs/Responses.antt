@@ -13,6 +13,13 @@ changed_first test change [] = []
 changed_first test change (x ∷ xs) =
     if test x then change x ∷ xs else x ∷ changed_first test change xs
 
+-- each element that passes a test is changed
+abbrev pub changed_if : {X : Type 0} → (X → Bool) → (X → X) → X → X
+changed_if test change x = if test x then change x else x
+
+abbrev pub changed_each : {X : Type 0} → (X → Bool) → (X → X) → List X → List X
+changed_each {X = X} test change xs = map {B = X} (changed_if test change) xs
+
 abbrev pub is_allocate : Kind → Bool
 is_allocate Allocate = true
 is_allocate Refresh = false
@@ -49,6 +56,7 @@ reason_in (Ended why) = why
 abbrev pub restarted : (clock : ℕ) → Peer → Peer
 restarted clock p = record p {
   over = false;
+  shared = false;
   violated = false;
   expires_at = 0;
   channel_expires_at = 0;
@@ -137,12 +145,14 @@ granted_by r Delete p = p
 granted_by r (Permit peer) p = record p {
   expires_at = r.since + seconds 300;
   task = kept_task r.since 300;
+  shared = false;
   violated = false;
 }
 granted_by r (Bind number peer) p = record p {
   expires_at = r.since + seconds 300;
   channel_expires_at = r.since + seconds 600;
   task = kept_task r.since 300;
+  shared = false;
   violated = false;
 }
 
@@ -152,10 +162,11 @@ granted p = option_map_or (λ q. granted_by q.request q.request.kind p) p.task.p
 abbrev pub given_up : (code : ℕ) → Peer → Peer
 given_up code p = record p { over = true; code = code; task = record p.task { pending = None } }
 
--- if a channel is refused, the client asks for a permission instead; but it sends no request for
--- the peer any more if the server refuses the credentials (7.4; RFC 8489, 9.2.5)
+-- If a channel is refused, the client asks for a permission instead. If a request that named other
+-- peers too is refused, any of them may be the reason (10.2), so the client asks for each alone. But it
+-- sends no request for the peer any more if the server refuses the credentials (7.4; RFC 8489, 9.2.5)
 abbrev pub asks_instead : (code : ℕ) → Peer → Bool
-asks_instead code p = p.wants && not ((code == 401) || (code == 438))
+asks_instead code p = (p.wants || p.shared) && not ((code == 401) || (code == 438))
 
 abbrev pub turned_down : (clock code : ℕ) → Peer → Peer
 turned_down clock code p =
@@ -168,7 +179,8 @@ turned_down clock code p =
 abbrev pub challenged : Setup → (challenge : Option ℕ) → (clock code : ℕ) → Peer → Peer
 challenged setup challenge clock code p =
     if may_retry setup challenge code p.task
-    then record p { task = again_task clock p.task; violated = false } else given_up code p
+    then record p { task = again_task clock p.task; violated = false; shared = false }
+    else given_up code p
 
 -- A response with a wrong integrity is dropped over an unreliable transport, and noted; over a
 -- reliable one it ends the transaction (RFC 8489, 9.2.5)
@@ -181,24 +193,25 @@ violated_by setup p = if setup.is_reliable then given_up 0 (noted p) else noted 
 abbrev pub awaits_of : (id : ℕ) → Peer → Bool
 awaits_of id p = awaits id p.task
 
-abbrev pub with_peer : (id : ℕ) → (Peer → Peer) → State → State
-with_peer id change state =
-    record state { peers = changed_first (awaits_of id) change state.peers }
+-- each peer that the request names
+abbrev pub with_peers : (id : ℕ) → (Peer → Peer) → State → State
+with_peers id change state =
+    record state { peers = changed_each (awaits_of id) change state.peers }
 
--- The response to a request for a peer. 437: the server has no such allocation
+-- The response to a request for peers. 437: the server has no such allocation
 abbrev pub answered_peer : Setup → (id : ℕ) → (authentic : Bool) → Answer → State → State
 answered_peer setup id authentic (Opened relayed mapped lifetime) state = state
 answered_peer setup id authentic (Extended lifetime) state = state
 answered_peer setup id authentic Done state =
-    if authentic then with_peer id granted state else state
+    if authentic then with_peers id granted state else state
 answered_peer setup id authentic (Refused code) state =
     if authentic then (if code == 437 then ends (Rejected 437) state
-    else with_peer id (turned_down state.clock code) state) else state
+    else with_peers id (turned_down state.clock code) state) else state
 answered_peer setup id authentic (Challenged code challenge) state =
-    with_peer id (challenged setup state.challenge state.clock code)
+    with_peers id (challenged setup state.challenge state.clock code)
     (record state { challenge = Some challenge })
 answered_peer setup id authentic (Redirected server) state = state
-answered_peer setup id authentic Violated state = with_peer id (violated_by setup) state
+answered_peer setup id authentic Violated state = with_peers id (violated_by setup) state
 
 -- ---- By the request that it answers
 

@@ -16,7 +16,7 @@ success_to lifetime (Bind number peer) = Done
 
 -- the success response comes at once
 abbrev pub replied : Setup → (lifetime now : ℕ) → State → Output → State
-replied setup lifetime now state (asks r) =
+replied setup lifetime now state (asks r others) =
     (step setup state now 0 (responds setup.server r.id true (success_to lifetime r.kind))).state
 replied setup lifetime now state (send_to peer bytes) = state
 replied setup lifetime now state (send_on number bytes) = state
@@ -54,7 +54,7 @@ AreClose setup lifetime fresh late (now ∷ earlier) state =
 
 -- the success response, if a request was sent
 abbrev pub reply_events : Setup → (lifetime now : ℕ) → Output → List Timed
-reply_events setup lifetime now (asks r) =
+reply_events setup lifetime now (asks r others) =
     record {
       now = now;
       fresh = 0;

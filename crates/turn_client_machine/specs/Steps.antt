@@ -1,8 +1,8 @@
 -- One step of the client: the state after an event, and the output.
-use Rattle.std.specs.Prelude.{ℕ, ◌+◌, Bool, true, false, not, ◌&&◌, ◌||◌, List, [], ◌∷◌, find, length, max, min, Option, None, Some, is_some, nat_lt, ◌==◌, if◌then◌else◌}
+use Rattle.std.specs.Prelude.{ℕ, ◌+◌, Bool, true, false, not, ◌&&◌, ◌||◌, List, [], ◌∷◌, find, length, max, min, zero, suc, ◌-◌, map, ◌++◌, Option, None, Some, is_some, nat_lt, ◌==◌, if◌then◌else◌}
 use Rattle.std.specs.List.{list_any}
-use Rattle.std.specs.Option.{option_map_or}
-use Rattle.turn_client_machine.specs.Clients.{Ip, Endpoint, is_ip, is_endpoint, seconds, Setup, Kind, Allocate, Refresh, Delete, Permit, Bind, End, Closed, Silent, Phase, Quiet, Asking, Allocated, Closing, Ended, Peer, State, is_allocated, is_active, is_peer, is_dropped, is_rested, is_permitted, has_channel, hears, IntegrityViolated}
+use Rattle.std.specs.Option.{option_map_or, option_to_list}
+use Rattle.turn_client_machine.specs.Clients.{Ip, Endpoint, is_ip, is_endpoint, seconds, Setup, Kind, Allocate, Refresh, Delete, Permit, Bind, End, Closed, Silent, Phase, Quiet, Asking, Allocated, Closing, Ended, Peer, State, Task, is_allocated, is_active, is_peer, is_dropped, is_rested, is_permitted, has_channel, hears, IntegrityViolated}
 use Rattle.turn_client_machine.specs.Events.{Event, allocates, permits, binds, drops, sends, closes, responds, gives, gives_on, strays, polls, Output, send_to, send_on, shows, nothing}
 use Rattle.turn_client_machine.specs.Tasks.{begun_task, is_due, is_expired, turned, turn_output}
 use Rattle.turn_client_machine.specs.Responses.{changed_first, ends, deletes, restarted, given_up, responded}
@@ -52,6 +52,7 @@ new_peer clock wants address peers = record {
   over = false;
   code = 0;
   violated = false;
+  shared = false;
   expires_at = 0;
   channel_expires_at = 0;
   task = begun_task clock;
@@ -86,6 +87,7 @@ wanting clock p =
       wants = true;
       wanted = true;
       violated = false;
+      shared = false;
       task = record {
         due = min p.task.deadline clock;
         deadline = min p.task.deadline (clock + seconds 40);
@@ -177,7 +179,8 @@ turns setup fresh state =
       state = record state {
         task = turned setup state.clock fresh (kind_in state.phase) state.challenge state.task;
       };
-      output = turn_output setup state.clock fresh (kind_in state.phase) state.challenge state.task;
+      output = turn_output setup state.clock fresh (kind_in state.phase) state.challenge []
+          state.task;
     }
 
 abbrev pub is_due_of : (clock : ℕ) → Peer → Bool
@@ -191,36 +194,106 @@ counted test (x ∷ xs) = if test x then 1 + counted test xs else counted test x
 abbrev pub is_under_way : Peer → Bool
 is_under_way p = is_some p.task.pending
 
--- At most ten requests are under way at once (RFC 8489, 6.2): one for the allocation, and nine for
--- peers. A new request for another peer waits
+-- the request under way names other peers too; or it is for this peer alone
+abbrev pub is_together : Peer → Bool
+is_together p = is_under_way p && p.shared
+
+abbrev pub is_single : Peer → Bool
+is_single p = is_under_way p && not p.shared
+
+-- At most ten requests are under way at once (RFC 8489, 6.2): one for the allocation, one that names
+-- several peers, and eight for single peers. A new request for another peer waits
 abbrev pub is_free : List Peer → Bool
-is_free peers = nat_lt (counted is_under_way peers) 9
+is_free peers = nat_lt (counted is_single peers) 8
 
 abbrev pub is_next : (free : Bool) → (clock : ℕ) → Peer → Bool
 is_next free clock p =
-    (free || (is_under_way p || is_expired clock p.task)) && is_due_of clock p
+    (free || (is_single p || is_expired clock p.task)) && is_due_of clock p
 
 abbrev pub kind_of : Peer → Kind
 kind_of p = if p.wants then Bind p.number p.address else Permit p.address
 
-abbrev pub turned_of : Setup → (clock fresh : ℕ) → (challenge : Option ℕ) → Peer → Peer
-turned_of setup clock fresh challenge p =
-    if is_expired clock p.task then given_up 0 p
-    else record p { task = turned setup clock fresh (kind_of p) challenge p.task }
+-- A request that names several peers is sent once. If no response comes, each of them is asked for
+-- alone, with a request of its own
+abbrev pub own_task : Peer → Task
+own_task p = record p.task { pending = if p.shared then None else p.task.pending }
 
-abbrev pub output_of : Setup → (clock fresh : ℕ) → (challenge : Option ℕ) → Peer → Output
-output_of setup clock fresh challenge p =
+abbrev pub turned_of : (shared : Bool) → Setup → (clock fresh : ℕ) → (challenge : Option ℕ) → Peer
+    → Peer
+turned_of shared setup clock fresh challenge p =
+    if is_expired clock p.task then given_up 0 p
+    else record p {
+      task = turned setup clock fresh (kind_of p) challenge (own_task p);
+      shared = shared;
+    }
+
+abbrev pub output_of : Setup → (clock fresh : ℕ) → (challenge : Option ℕ)
+    → (others : List Endpoint) → Peer → Output
+output_of setup clock fresh challenge others p =
     if is_expired clock p.task then nothing
-    else turn_output setup clock fresh (kind_of p) challenge p.task
+    else turn_output setup clock fresh (kind_of p) challenge others (own_task p)
+
+-- ---- Several peers in one CreatePermission request (10.1)
+
+-- a permission that is due within 30 seconds may be asked for together with others, unless a request
+-- that named several peers was refused
+abbrev pub is_fit : (clock : ℕ) → Peer → Bool
+is_fit clock p =
+    not (is_under_way p) && (not (p.wants || p.shared)
+    && (not (is_expired clock p.task) && is_due_of (clock + seconds 30) p))
+
+-- whether the request for this peer names others too: no other such request is under way
+abbrev pub takes_along : Setup → (clock : ℕ) → List Peer → Peer → Bool
+takes_along setup clock peers p =
+    (is_fit clock p && nat_lt 1 (counted (is_fit clock) peers))
+    && ((nat_lt 0 setup.most_sends && nat_lt 1 setup.most_named)
+    && not (list_any is_together peers))
+
+-- the most further peers that it names
+abbrev pub most_others : Setup → (along : Bool) → ℕ
+most_others setup along = if along then setup.most_named - 1 else 0
+
+-- the first n that are fit are asked for with it; and their addresses
+abbrev pub joined : Setup → (clock fresh : ℕ) → (challenge : Option ℕ) → (n : ℕ) → List Peer
+    → List Peer
+joined setup clock fresh challenge zero peers = peers
+joined setup clock fresh challenge (suc n) peers =
+    changed_first (is_fit clock) (turned_of true setup clock fresh challenge)
+    (joined setup clock fresh challenge n peers)
+
+abbrev pub others_of : Setup → (clock fresh : ℕ) → (challenge : Option ℕ) → (n : ℕ) → List Peer
+    → List Endpoint
+others_of setup clock fresh challenge zero peers = []
+others_of setup clock fresh challenge (suc n) peers =
+    others_of setup clock fresh challenge n peers
+    ++ map {B = Endpoint} (λ p. p.address)
+    (option_to_list (find (is_fit clock) (joined setup clock fresh challenge n peers)))
+
+-- ---- A peer's turn
+
+abbrev pub turned_first : Setup → (fresh : ℕ) → (free along : Bool) → State → List Peer
+turned_first setup fresh free along state =
+    changed_first (is_next free state.clock)
+    (turned_of along setup state.clock fresh state.challenge) state.peers
+
+abbrev pub others_at : Setup → (fresh : ℕ) → (free along : Bool) → State → List Endpoint
+others_at setup fresh free along state =
+    others_of setup state.clock fresh state.challenge (most_others setup along)
+    (turned_first setup fresh free along state)
+
+abbrev pub turns_with : Setup → (fresh : ℕ) → (free along : Bool) → State → Peer → Step
+turns_with setup fresh free along state p = record {
+  state = record state {
+    peers = joined setup state.clock fresh state.challenge (most_others setup along)
+        (turned_first setup fresh free along state);
+  };
+  output = output_of setup state.clock fresh state.challenge
+      (others_at setup fresh free along state) p;
+}
 
 abbrev pub turns_peer : Setup → (fresh : ℕ) → (free : Bool) → State → Peer → Step
-turns_peer setup fresh free state p = record {
-  state = record state {
-    peers = changed_first (is_next free state.clock)
-        (turned_of setup state.clock fresh state.challenge) state.peers;
-  };
-  output = output_of setup state.clock fresh state.challenge p;
-}
+turns_peer setup fresh free state p =
+    turns_with setup fresh free (takes_along setup state.clock state.peers p) state p
 
 abbrev pub peers_polled : Setup → (fresh : ℕ) → (free : Bool) → State → Step
 peers_polled setup fresh free state =

@@ -1,8 +1,8 @@
 -- When a request is sent, sent again, and given up (RFC 8656, 8.1, 10.1 and 12.1; RFC 8489,
 -- 6.2.1).
-use Rattle.std.specs.Prelude.{ℕ, ◌+◌, ◌-◌, ◌*◌, Bool, false, ◌&&◌, ◌||◌, not, Option, None, Some, is_some, max, min, nat_lt, nat_le, ◌==◌, if◌then◌else◌}
+use Rattle.std.specs.Prelude.{ℕ, List, ◌+◌, ◌-◌, ◌*◌, Bool, false, ◌&&◌, ◌||◌, not, Option, None, Some, is_some, max, min, nat_lt, nat_le, ◌==◌, if◌then◌else◌}
 use Rattle.std.specs.Option.{option_map_or}
-use Rattle.turn_client_machine.specs.Clients.{Setup, Kind, Request, Task, seconds}
+use Rattle.turn_client_machine.specs.Clients.{Endpoint, Setup, Kind, Request, Task, seconds}
 use Rattle.turn_client_machine.specs.Events.{Output, asks, nothing}
 
 -- due now, with 40 seconds to be granted: a transaction takes 39.5 at most
@@ -75,6 +75,7 @@ turned setup clock fresh kind challenge t =
     if may_send setup t then sent_task setup clock (request_now clock fresh kind challenge t) t
     else record t { due = t.deadline }
 
-abbrev pub turn_output : Setup → (clock fresh : ℕ) → Kind → (challenge : Option ℕ) → Task → Output
-turn_output setup clock fresh kind challenge t =
-    if may_send setup t then asks (request_now clock fresh kind challenge t) else nothing
+abbrev pub turn_output : Setup → (clock fresh : ℕ) → Kind → (challenge : Option ℕ)
+    → (others : List Endpoint) → Task → Output
+turn_output setup clock fresh kind challenge others t =
+    if may_send setup t then asks (request_now clock fresh kind challenge t) others else nothing

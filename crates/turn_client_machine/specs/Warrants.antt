@@ -1,14 +1,37 @@
 -- What warrants that something is sent or shown, in terms of the events, outputs and moments
 -- before it, and not of the client's state.
 use Rattle.std.specs.Prelude.{◌≡◌, ℕ, ◌+◌, ◌<◌, Bool, true, false, ◌⊎◌, List, [], ◌∷◌, Option, None, Some}
+use Rattle.std.specs.List.{AllByRecursion}
+use Rattle.turn_machine.specs.Lists.{SomeOf}
 use Rattle.turn_client_machine.specs.Clients.{Ip, Endpoint, is_ip, is_endpoint, seconds, Setup, Kind, Allocate, Refresh, Delete, Permit, Bind, Request}
 use Rattle.turn_client_machine.specs.Events.{Answer, Opened, Extended, Done, Event, permits, binds, sends, responds, gives, gives_on, polls, Output, asks, send_to, send_on, shows, nothing}
 use Rattle.turn_client_machine.specs.Runs.{Happening, Happened}
 
--- the request was first sent at this happening
+-- a request asks for this: itself, or a permission for another peer that it names (10.1)
+pub record IsAlong (first : Request) (others : List Endpoint) (r : Request) : Type 0 where
+  pub peer : Endpoint
+  pub kind : first.kind ≡ Permit peer
+  pub named : SomeOf (λ other. r ≡ record first { kind = Permit other }) others
+
+abbrev pub IsPartOf : (first : Request) → (others : List Endpoint) → Request → Type 0
+IsPartOf first others r = (r ≡ first) ⊎ IsAlong first others r
+
+abbrev pub AsksFor : Request → Output → Type 0
+AsksFor r (asks first others) = IsPartOf first others r
+AsksFor r (send_to peer bytes) = ⊥
+AsksFor r (send_on number bytes) = ⊥
+AsksFor r (shows peer bytes) = ⊥
+AsksFor r nothing = ⊥
+
+-- it was first sent at this happening, alone or in a request that names several peers
 pub record Asks (r : Request) (h : Happening) : Type 0 where
-  pub asked : h.output ≡ asks r
+  pub asked : AsksFor r h.output
   pub then : r.since ≡ h.moment
+
+-- the whole request was first sent
+pub record Sends (first : Request) (others : List Endpoint) (h : Happening) : Type 0 where
+  pub asked : h.output ≡ asks first others
+  pub then : first.since ≡ h.moment
 
 -- an authentic response from the server to a request that this client sent before
 pub record Confirms (server : Endpoint) (P : Request → Answer → Type 0) (h : Happening)
@@ -99,7 +122,9 @@ IsWanted earlier (Bind number peer) = Happened (NamesPeer peer) earlier
 -- indication, with a permission of the peer's IP address; on a channel of this very peer; or on
 -- one that a request asked for, with a permission
 abbrev pub IsRight : Setup → List Happening → (now : ℕ) → Event → Output → Type 0
-IsRight setup earlier now event (asks r) = (event ≡ polls) × IsWanted earlier r.kind
+IsRight setup earlier now event (asks r others) =
+    (event ≡ polls) × IsWanted earlier r.kind
+    × AllByRecursion (λ peer. Happened (NamesPeer peer) earlier) others
 IsRight setup earlier now event (send_to peer bytes) =
     (event ≡ sends peer bytes) × Confirmed setup.server (Lasts now) earlier
     × IsPermitted setup.server peer.ip now earlier

@@ -8,6 +8,7 @@ mod polling;
 mod reaching;
 mod serving;
 mod sessions;
+mod sharing;
 mod warrants;
 
 pub use asking::requests_are_identified;
@@ -18,4 +19,5 @@ pub use polling::{polls_come_to_an_end, renewals_are_rare, turns_are_used, usele
 pub use reaching::{goes_on, stays_punctual, will_reach};
 pub use serving::{data_crosses, fit_is_heard, server_agrees, server_keeps};
 pub use sessions::{client_and_server_meet, premises_can_be_met};
+pub use sharing::peers_share_requests;
 pub use warrants::{data_is_warranted, strangers_change_nothing};

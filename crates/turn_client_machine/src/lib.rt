@@ -1,5 +1,5 @@
-//! A TURN client by RFC 8656 as a machine without code, and twenty-six laws that are proved of
-//! it, eight of them joined with the server's machine, `turn_machine`. They say what must never
+//! A TURN client by RFC 8656 as a machine without code, and twenty-seven laws that are proved
+//! of it, eight of them joined with the server's machine, `turn_machine`. They say what must never
 //! happen, and what must. A law is the contract of a function with an empty body.
 //!
 //! # The machine
@@ -46,8 +46,11 @@
 //!   server permits the peer's IP address (12).
 //! - Data from any port of a permitted IP address is shown, and data to one is sent (9): ICE
 //!   needs both.
-//! - A peer has one request of its own: several peers in one CreatePermission request are not part
-//!   of the machine.
+//! - A CreatePermission request takes along further peers whose permission is due within 30 seconds
+//!   (10.1), up to a setting; one such request is under way at a time. It is sent once. If no response
+//!   comes by the first wait, or if it is refused, the client asks for each of its peers alone: an
+//!   error response doesn't say which of them is the reason. A CreatePermission request for one peer,
+//!   as every other request, is sent again by the waits of RFC 8489.
 //! - A peer that the user drops keeps its place, so that its channel number rests. If a channel was
 //!   wanted, no other peer takes the place for 900 seconds: a channel lasts for 600, and its number
 //!   may go to another peer 300 seconds later (12). If the user asks for the peer again, it has the
@@ -71,9 +74,10 @@ mod tasks;
 pub use laws::{
     attempts_are_few, client_and_server_meet, client_is_bounded, data_crosses, data_is_warranted,
     ends_for_a_reason, fit_is_heard, goes_on, granted_lasts, kept_alive, numbers_rest,
-    peers_are_dropped, peers_are_named, peers_stay, polls_come_to_an_end, premises_can_be_met,
-    renewals_are_rare, requests_are_identified, server_agrees, server_keeps, stays_punctual,
-    strangers_change_nothing, turns_are_used, useless_is_deleted, violations_are_noted, will_reach,
+    peers_are_dropped, peers_are_named, peers_share_requests, peers_stay, polls_come_to_an_end,
+    premises_can_be_met, renewals_are_rare, requests_are_identified, server_agrees, server_keeps,
+    stays_punctual, strangers_change_nothing, turns_are_used, useless_is_deleted,
+    violations_are_noted, will_reach,
 };
 pub use peers::Peer;
 pub use phases::{End, Phase};

@@ -22,6 +22,8 @@ pub struct Peer {
     pub code: u16,
     /// Whether a response to the request under way had a wrong integrity.
     pub violated: bool,
+    /// Whether the latest request for it, of those since it was last granted, named other peers too.
+    pub shared: bool,
     /// When the permission for its IP address expires at the earliest (RFC 8656, section 9), or 0
     /// if none was granted.
     pub expires_at: u128,

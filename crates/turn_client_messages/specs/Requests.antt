@@ -10,6 +10,7 @@ use Rattle.stun_base.specs.declared.message_class.MessageClass.TheVariants.{Requ
 use Rattle.stun_base.specs.MessageTypes.{type_of}
 use Rattle.stun_types.specs.Writers.{Writer}
 use Rattle.stun_authentication.specs.Writing.{adds, no_room, sizes}
+use Rattle.stun_endpoints.specs.declared.endpoints.Endpoint.{Endpoint}
 use Rattle.turn_attrs.specs.Channels.{channel_of}
 use Rattle.turn_client_machine.specs.declared.requests.Kind.{Kind}
 use Rattle.turn_client_machine.specs.declared.requests.Kind.TheVariants.{Allocate, Refresh, Delete, Permit, Bind}
@@ -34,27 +35,28 @@ id_of request = request.id % 2 ^ 96
 
 -- ---- What it asks for
 
-abbrev pub asked : Content → (id : ℕ) → Kind → List Attribute
-asked content id Allocate = allocate_attributes content.lifetime content.family
-asked content id Refresh = map lifetime_attribute (option_to_list content.lifetime)
-asked content id Delete = lifetime_attribute 0 ∷ []
-asked content id (Permit peer) = named_peer id peer ∷ []
-asked content id (Bind number peer) = channel_attribute number ∷ named_peer id peer ∷ []
+-- a CreatePermission request names its peer, and the others after it (section 10.1)
+abbrev pub asked : Content → (id : ℕ) → (others : List Endpoint) → Kind → List Attribute
+asked content id others Allocate = allocate_attributes content.lifetime content.family
+asked content id others Refresh = map lifetime_attribute (option_to_list content.lifetime)
+asked content id others Delete = lifetime_attribute 0 ∷ []
+asked content id others (Permit peer) = map (named_peer id) (peer ∷ others)
+asked content id others (Bind number peer) = channel_attribute number ∷ named_peer id peer ∷ []
 
 -- the attributes before the credentials
-abbrev pub attributes_of : Content → Request → List Attribute
-attributes_of content request =
-    software_attributes content.software ++ asked content (id_of request) request.kind
+abbrev pub attributes_of : Content → (others : List Endpoint) → Request → List Attribute
+attributes_of content others request =
+    software_attributes content.software ++ asked content (id_of request) others request.kind
 
 -- ---- The message
 
 -- what it asks for, and then what the challenge asks for, if there is a login
-abbrev pub text_of : Content → Asked → List ℕ
-text_of content r =
+abbrev pub text_of : Content → (others : List Endpoint) → Asked → List ℕ
+text_of content others r =
     let kind = type_for r.request.kind in
     let id = id_of r.request in
     message_encoding kind id
-    (ended r.login content.fingerprint kind id (attributes_of content r.request))
+    (ended r.login content.fingerprint kind id (attributes_of content others r.request))
 
 -- a channel has no such number
 abbrev pub number_refusal : Kind → Option StunWriteError
@@ -64,16 +66,16 @@ number_refusal _ = None
 
 -- why it isn't written: a channel has no such number; an attribute before the credentials doesn't
 -- fit; or why it doesn't end
-abbrev pub refusal_of : (greatest : Option ℕ) → Content → Asked
+abbrev pub refusal_of : (greatest : Option ℕ) → Content → (others : List Endpoint) → Asked
     → Option StunWriteError
-refusal_of greatest content r =
-    let attributes = attributes_of content r.request in
+refusal_of greatest content others r =
+    let attributes = attributes_of content others r.request in
     option_or (number_refusal r.request.kind)
     (option_or (no_room greatest 20 (sizes attributes))
     (end_refusal r.login content.fingerprint greatest
     (length (message_encoding (type_for r.request.kind) (id_of r.request) attributes))))
 
 -- it needs more than the ready room
-abbrev pub TakesMemory : Writer → Content → Asked → Type 0
-TakesMemory w content r =
-    Exceeds w (adds (attributes_of content r.request) ++ end_steps r.login content.fingerprint)
+abbrev pub TakesMemory : Writer → Content → (others : List Endpoint) → Asked → Type 0
+TakesMemory w content others r =
+    Exceeds w (adds (attributes_of content others r.request) ++ end_steps r.login content.fingerprint)

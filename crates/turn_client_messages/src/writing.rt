@@ -1,9 +1,11 @@
 //! Writing a request (RFC 8656, sections 7.1, 8.1, 10.1 and 12.1).
 
-ghost use Rattle.std.specs.Prelude.{◌≡◌};
+ghost use Rattle.std.specs.Prelude.{◌≡◌, ◌∷◌};
 ghost use Rattle.stun_grammar.specs.declared.error.StunWriteError.TheVariants.{OutOfRange};
 
 use crate::{ClientRequest, RequestSettings};
+use arrayvec::ArrayVec;
+use stun_endpoints::Endpoint;
 use stun_types::message::{StunWriteError, TransactionId};
 use stun_types::prelude::*;
 use turn_attrs::Channel;
@@ -19,6 +21,18 @@ fn no_channel(number: u16) -> StunWriteError
         min: 0x4000,
         max: 0x4FFF,
     }
+}
+
+/// A peer, and the others after it.
+fn with_others(peer: Endpoint, others: &ArrayVec<Endpoint, 15>) -> ArrayVec<Endpoint, 16>
+    ensures { result.items ≡ peer ∷ others.now.items }
+{
+    let mut peers = ArrayVec::new();
+    peers.push(peer);
+    for i in 0..others.len() {
+        peers.push(others[i]);
+    }
+    peers
 }
 
 impl ClientRequest<'_> {
@@ -63,7 +77,8 @@ impl ClientRequest<'_> {
     ///
     /// An Allocate request asks for the lifetime and the family of the settings, over UDP; a Refresh
     /// request for the lifetime, and one that deletes the allocation for a lifetime of 0; a
-    /// CreatePermission request names its peer, and a ChannelBind request its channel and its peer.
+    /// CreatePermission request names its peer and, after it, `others` (RFC 8656, section 10.1); and a
+    /// ChannelBind request its channel and its peer. Other requests don't use `others`.
     /// The credentials are those of
     /// [`answer_challenge_with_key`](stun_authentication::answer_challenge_with_key).
     ///
@@ -83,6 +98,7 @@ impl ClientRequest<'_> {
     /// # Examples
     ///
     /// ```
+    /// use arrayvec::ArrayVec;
     /// use stun_types::message::MessageWriteVec;
     /// use stun_types::prelude::*;
     /// use turn_client_machine::{Kind, Request};
@@ -97,23 +113,25 @@ impl ClientRequest<'_> {
     /// let request = Request { id: 1, kind: Kind::Allocate, challenge: None, since: 0 };
     /// let first = ClientRequest { request, login: None };
     /// let mut write = MessageWriteVec::new(alloc);
-    /// first.write_into(&settings, &mut write)?;
+    /// first.write_into(&ArrayVec::new(), &settings, &mut write)?;
     /// let bytes = b"\x00\x03\x00\x10\x21\x12\xA4\x42\0\0\0\0\0\0\0\0\0\0\0\x01\
     ///               \x00\x0D\x00\x04\x00\x00\x0E\x10\x00\x19\x00\x04\x11\x00\x00\x00";
     /// assert_eq!(rt; write.finish().as_slice(), bytes.as_slice());
     /// ```
     pub fn write_into<B: MessageWrite>(
         &self,
+        others: &ArrayVec<Endpoint, 15>,
         settings: &RequestSettings<'_>,
         write: &mut B,
     ) -> Result<(), StunWriteError>
         requires empty { (B.state write.old).bytes ≡ [] }
         requires room { Fits (B.state write.old).greatest 20 }
-        ensures text { OnOk result ((B.state write.new).bytes ≡ text_of (content_of settings.now) (asked_of self.now)) }
-        ensures answer { FailsFor (refusal_of (B.state write.old).greatest (content_of settings.now) (asked_of self.now))
-            result }
+        ensures text { OnOk result ((B.state write.new).bytes
+            ≡ text_of (content_of settings.now) others.now.items (asked_of self.now)) }
+        ensures answer { FailsFor (refusal_of (B.state write.old).greatest (content_of settings.now)
+            others.now.items (asked_of self.now)) result }
         ensures memory { result ≡ Err StunWriteError.OutOfMemory
-            → TakesMemory (B.state write.old) (content_of settings.now) (asked_of self.now) }
+            → TakesMemory (B.state write.old) (content_of settings.now) others.now.items (asked_of self.now) }
     {
         let (lifetime, family) = (settings.lifetime, settings.family);
         match self.request.kind {
@@ -126,7 +144,8 @@ impl ClientRequest<'_> {
                 self.write_asked(&TurnRequest::Refresh { lifetime }, settings, write)
             }
             Kind::Permit(peer) => {
-                let peers = &[peer];
+                let peers = with_others(peer, others);
+                let peers = peers.as_slice();
                 self.write_asked(&TurnRequest::CreatePermission { peers }, settings, write)
             }
             Kind::Bind { number, peer } => match Channel::new(number) {

@@ -1,3 +1,4 @@
 pub mod ListsLemmas
 pub mod NumbersLemmas
 pub mod WakingLemmas
+pub mod WaysLemmas

@@ -55,7 +55,7 @@ changed_here test change (x ∷ xs) (suc i) d lt is before =
 pub changed_at : {X : Type 0} (test : X → Bool) (change : X → X) (xs : List X) (i : ℕ) (d : X) → position test xs ≡ Some i → changed_first test change xs ≡ set xs i (change (get_or xs i d))
 changed_at test change xs i d at = let says = position-Some test xs i d at in changed_here test change xs i d says.0 says.1 says.2
 
-none_of : {X : Type 0} (b : Bool) (x : X) → cond b (Some x) None ≡ None → b ≡ false
+pub none_of : {X : Type 0} (b : Bool) (x : X) → cond b (Some x) None ≡ None → b ≡ false
 none_of true x is = absurd cc
 none_of false x is = refl
 

@@ -11,7 +11,7 @@ use Rattle.turn_client_machine.specs.declared.tasks.Pending.{Pending}
 use Rattle.turn_client_machine.specs.declared.peers.Peer.{Peer}
 use Rattle.turn_client_machine.specs.declared.requests.Kind.TheVariants.{Allocate, Refresh, Delete, Permit, Bind}
 use Rattle.turn_client_machine.specs.Tasks.{may_retry, is_expired}
-use Rattle.turn_client_machine.specs.Responses.{asks_instead, changed_first, reopened, granted_by, given_up, noted}
+use Rattle.turn_client_machine.specs.Responses.{asks_instead, changed_first, changed_each, changed_if, reopened, granted_by, given_up, noted}
 use Rattle.turn_client_machine.specs.Bounds.{AreNumbered}
 use Rattle.turn_client_state.specs.declared.changes.Change.{Change}
 use Rattle.turn_client_state.specs.declared.changes.Change.TheVariants.{Restart, Replace, Drop, Want, Grant, TurnDown, Challenge, Violate, Turn}
@@ -27,6 +27,7 @@ no_peer = record {
   over = false;
   code = 0;
   violated = false;
+  shared = false;
   expires_at = 0;
   channel_expires_at = 0;
   task = record { due = 0; deadline = 0; pending = None; retries = 0 };
@@ -56,7 +57,7 @@ changed_number Grant p = granted_in p.task.pending p
 changed_number (TurnDown clock code) p = cond_both (asks_instead code p) _ _ (λ (q : Peer). q.number ≡ p.number) (λ _. refl) (λ _. refl)
 changed_number (Challenge settings known clock code) p = cond_both (may_retry (setup_of settings) known code p.task) _ _ (λ (q : Peer). q.number ≡ p.number) (λ _. refl) (λ _. refl)
 changed_number (Violate settings) p = cond_both settings.is_reliable (given_up 0 (noted p)) (noted p) (λ (q : Peer). q.number ≡ p.number) (λ _. refl) (λ _. refl)
-changed_number (Turn settings clock fresh challenge) p = cond_both (is_expired clock p.task) _ _ (λ (q : Peer). q.number ≡ p.number) (λ _. refl) (λ _. refl)
+changed_number (Turn along settings clock fresh challenge) p = cond_both (is_expired clock p.task) _ _ (λ (q : Peer). q.number ≡ p.number) (λ _. refl) (λ _. refl)
 
 changed_length : (test : Peer → Bool) (change : Peer → Peer) (ps : List Peer) → length (changed_first test change ps) ≡ length ps
 changed_length test change [] = refl
@@ -84,6 +85,17 @@ numbered_reopened clock [] are = are
 numbered_reopened clock (p ∷ ps) are =
     let same = length_reopened clock ps in
     (subst (λ (n : ℕ). p.number ≡ 0x4000 + n) (sym same) are.0, (subst (λ (n : ℕ). n < 4096) (sym same) are.1.0, numbered_reopened clock ps are.1.1))
+
+length_each : (test : Peer → Bool) (change : Peer → Peer) (ps : List Peer) → length (changed_each test change ps) ≡ length ps
+length_each test change [] = refl
+length_each test change (p ∷ ps) = ap suc (length_each test change ps)
+
+pub numbered_each : (test : Peer → Bool) (by : Change) (ps : List Peer) → AreNumbered ps → AreNumbered (changed_each test (changed_by by) ps)
+numbered_each test by [] are = are
+numbered_each test by (p ∷ ps) are =
+    let same = length_each test (changed_by by) ps in
+    let number : (changed_if test (changed_by by) p).number ≡ p.number = cond_both (test p) (changed_by by p) p (λ (q : Peer). q.number ≡ p.number) (λ _. changed_number by p) (λ _. refl) in
+    (number ∙ subst (λ (n : ℕ). p.number ≡ 0x4000 + n) (sym same) are.0, (subst (λ (n : ℕ). n < 4096) (sym same) are.1.0, numbered_each test by ps are.1.1))
 
 -- ---- A peer by its number
 

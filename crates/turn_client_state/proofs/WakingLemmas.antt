@@ -1,18 +1,20 @@
 -- A poll before the moment of the next wake does nothing.
-use Rattle.std.proofs.Common.{◌≡◌, ℕ, ◌<◌, inl, inr, ◌⊎◌, Bool, true, false, ◌&&◌, ◌||◌, List, [], ◌∷◌, Option, None, Some, find, drop, get_or, refl, sym, ap, ◌∙◌, arith, subst, ltb-true, ltb-false, lt-ltb, le-leb, leb-true, leb-false}
-use Rattle.std.specs.Prelude.{not, nat_lt, nat_le, min, max, if◌then◌else◌}
+use Rattle.std.proofs.Common.{◌≡◌, ℕ, ◌+◌, ◌<◌, inl, inr, ◌⊎◌, Bool, true, false, ◌&&◌, ◌||◌, List, [], ◌∷◌, Option, None, Some, find, drop, get_or, refl, sym, ap, ◌∙◌, arith, subst, ltb-true, ltb-false, lt-ltb, le-leb, leb-true, leb-false}
+use Rattle.std.specs.List.{list_any}
+use Rattle.std.specs.Prelude.{not, is_some, nat_lt, nat_le, min, max, if◌then◌else◌}
 use Rattle.std.specs.Option.{option_map_or}
-use Rattle.std.proofs.lemmas.Bool.{cond_both, cond-true, cond-false, cases_Bool, and_left, and_right, and_from, and_parts, true≢false}
-use Rattle.turn_client_machine.specs.Clients.{Setup, State, is_allocated, is_active}
+use Rattle.std.proofs.lemmas.Bool.{cond_both, cond-true, cond-false, cases_Bool, and_left, and_right, and_from, and_parts, not-true, true≢false}
+use Rattle.turn_client_machine.specs.Clients.{Endpoint, seconds, Setup, State, is_allocated, is_active}
 use Rattle.turn_client_machine.specs.declared.peers.Peer.{Peer}
 use Rattle.turn_client_machine.specs.declared.requests.Kind.{Kind}
+use Rattle.turn_client_machine.specs.declared.tasks.Pending.{Pending}
 use Rattle.turn_client_machine.specs.declared.tasks.Task.{Task}
 use Rattle.turn_client_machine.specs.declared.phases.Phase.{Phase}
 use Rattle.turn_client_machine.specs.declared.phases.Phase.TheVariants.{Quiet, Asking, Allocated, Closing, Ended}
 use Rattle.turn_client_machine.specs.Events.{asks, nothing}
 use Rattle.turn_client_machine.specs.Tasks.{is_due, is_expired, may_send, request_now, sent_task, turned, turn_output}
 use Rattle.turn_client_machine.specs.Responses.{changed_first, ends, given_up}
-use Rattle.turn_client_machine.specs.Steps.{Step, keeps, is_free, is_under_way, is_due_of, is_next, kind_in, silent_in, kind_of, turned_of, output_of, turns, turns_peer, peers_polled, polled}
+use Rattle.turn_client_machine.specs.Steps.{Step, keeps, counted, is_free, is_under_way, is_single, is_together, is_fit, is_due_of, is_next, kind_in, silent_in, kind_of, own_task, takes_along, others_at, turned_of, output_of, turns, turns_peer, turns_with, peers_polled, polled}
 use Rattle.turn_client_state.specs.Waking.{sooner, peer_wake, soonest, wake, is_before}
 
 not_le : (n m : ℕ) → m < n → nat_le n m ≡ false
@@ -36,20 +38,20 @@ none_free false false expired is fails = fails
 -- a peer that waits isn't next
 waits : (free : Bool) (clock : ℕ) (p : Peer) → is_due clock p.task ≡ false → is_next free clock p ≡ false
 waits free clock p fails =
-    and_right (free || (is_under_way p || is_expired clock p.task)) (is_due_of clock p) (and_right (not p.over) (is_due clock p.task) fails)
+    and_right (free || (is_single p || is_expired clock p.task)) (is_due_of clock p) (and_right (not p.over) (is_due clock p.task) fails)
 
-held_back : (free : Bool) (clock : ℕ) (p : Peer) → (free || is_under_way p) ≡ false → clock < max p.task.due p.task.deadline → is_next free clock p ≡ false
+held_back : (free : Bool) (clock : ℕ) (p : Peer) → (free || is_single p) ≡ false → clock < max p.task.due p.task.deadline → is_next free clock p ≡ false
 held_back free clock p fails less = elim (cases_Bool (is_due clock p.task)) [
   | inl here ↦ let due = leb-true p.task.due clock here in
-      and_left (free || (is_under_way p || is_expired clock p.task)) (is_due_of clock p) (none_free free (is_under_way p) (is_expired clock p.task) fails (not_le p.task.deadline clock (omega (arith, less, due))))
+      and_left (free || (is_single p || is_expired clock p.task)) (is_due_of clock p) (none_free free (is_single p) (is_expired clock p.task) fails (not_le p.task.deadline clock (omega (arith, less, due))))
   | inr wait ↦ waits free clock p wait
 ]
 
 peer_rests : (free : Bool) (clock : ℕ) (p : Peer) → is_before clock (peer_wake free p) ≡ true → is_next free clock p ≡ false
 peer_rests free clock p before =
-    cond_both p.over None (Some (if free || is_under_way p then p.task.due else max p.task.due p.task.deadline)) (λ (o : Option ℕ). is_before clock o ≡ true → is_next free clock p ≡ false)
-    (λ over _. and_right (free || (is_under_way p || is_expired clock p.task)) (is_due_of clock p) (and_left (not p.over) (is_due clock p.task) (ap not over)))
-    (λ _ later. cond_both (free || is_under_way p) p.task.due (max p.task.due p.task.deadline) (λ (n : ℕ). nat_lt clock n ≡ true → is_next free clock p ≡ false)
+    cond_both p.over None (Some (if free || is_single p then p.task.due else max p.task.due p.task.deadline)) (λ (o : Option ℕ). is_before clock o ≡ true → is_next free clock p ≡ false)
+    (λ over _. and_right (free || (is_single p || is_expired clock p.task)) (is_due_of clock p) (and_left (not p.over) (is_due clock p.task) (ap not over)))
+    (λ _ later. cond_both (free || is_single p) p.task.due (max p.task.due p.task.deadline) (λ (n : ℕ). nat_lt clock n ≡ true → is_next free clock p ≡ false)
     (λ _ less. waits free clock p (not_le p.task.due clock (ltb-true clock p.task.due less)))
     (λ fails less. held_back free clock p fails (ltb-true clock (max p.task.due p.task.deadline) less)) later)
     before
@@ -96,12 +98,12 @@ due_by : (clock : ℕ) (t : Task) → nat_lt clock t.due ≡ false → is_due cl
 due_by clock t is = le-leb t.due clock (ltb-false clock t.due is)
 
 -- a turn of a task that is due sends a request, or changes when it is due
-turn_works : (setup : Setup) (clock fresh : ℕ) (kind : Kind) (challenge : Option ℕ) (t : Task) → is_due clock t ≡ true → is_expired clock t ≡ false
-    → turned setup clock fresh kind challenge t ≡ t → turn_output setup clock fresh kind challenge t ≡ nothing → ⊥
-turn_works setup clock fresh kind challenge t due fit same none = elim (cases_Bool (may_send setup t)) [
-  | inl here ↦ let sent : asks (request_now clock fresh kind challenge t) ≡ nothing = sym (cond-true (may_send setup t) (asks (request_now clock fresh kind challenge t)) nothing here) ∙ none in absurd cc
+turn_works : (setup : Setup) (clock fresh : ℕ) (kind : Kind) (challenge : Option ℕ) (others : List Endpoint) (t : Task) → is_due clock t ≡ true → is_expired clock t ≡ false
+    → (turned setup clock fresh kind challenge t).due ≡ t.due → turn_output setup clock fresh kind challenge others t ≡ nothing → ⊥
+turn_works setup clock fresh kind challenge others t due fit same none = elim (cases_Bool (may_send setup t)) [
+  | inl here ↦ let sent : asks (request_now clock fresh kind challenge t) others ≡ nothing = sym (cond-true (may_send setup t) (asks (request_now clock fresh kind challenge t) others) nothing here) ∙ none in absurd cc
   | inr fails ↦
-      let is : t.deadline ≡ t.due = ap (λ (x : Task). x.due) (sym (cond-false (may_send setup t) (sent_task setup clock (request_now clock fresh kind challenge t) t) (record t { due = t.deadline }) fails) ∙ same) in
+      let is : t.deadline ≡ t.due = ap (λ (x : Task). x.due) (sym (cond-false (may_send setup t) (sent_task setup clock (request_now clock fresh kind challenge t) t) (record t { due = t.deadline }) fails)) ∙ same in
       let early = leb-true t.due clock due in
       let late = leb-false t.deadline clock fit in
       omega (arith, is, early, late)
@@ -112,13 +114,13 @@ task_works setup fresh s active due same =
     let ended : Step = keeps (ends (silent_in s.violated s.phase) s) in
     let sent : Step = record {
       state = record s { task = turned setup s.clock fresh (kind_in s.phase) s.challenge s.task };
-      output = turn_output setup s.clock fresh (kind_in s.phase) s.challenge s.task;
+      output = turn_output setup s.clock fresh (kind_in s.phase) s.challenge [] s.task;
     } in
     elim (cases_Bool (is_expired s.clock s.task)) [
       | inl here ↦ let over : ended ≡ keeps s = sym (cond-true (is_expired s.clock s.task) ended sent here) ∙ same in
           true≢false (sym active ∙ ap (λ (x : Step). is_active x.state.phase) (sym over))
       | inr fails ↦ let on : sent ≡ keeps s = sym (cond-false (is_expired s.clock s.task) ended sent fails) ∙ same in
-          turn_works setup s.clock fresh (kind_in s.phase) s.challenge s.task due fails (ap (λ (x : Step). x.state.task) on) (ap (λ (x : Step). x.output) on)
+          turn_works setup s.clock fresh (kind_in s.phase) s.challenge [] s.task due fails (ap (λ (x : Step). x.state.task.due) on) (ap (λ (x : Step). x.output) on)
     ]
 
 -- the element that a look-up finds, if its change changes nothing
@@ -135,20 +137,49 @@ unchanged test change (q ∷ qs) p found same = elim (cases_Bool (test q)) [
       unchanged test change qs p (sym (cond-false (test q) (Some q) (find test qs) fails) ∙ found) (ap (λ (xs : List Peer). drop 1 xs) list)
 ]
 
-peer_works : (setup : Setup) (fresh : ℕ) (free : Bool) (s : State) (p : Peer) → find (is_next free s.clock) s.peers ≡ Some p → turns_peer setup fresh free s p ≡ keeps s → ⊥
-peer_works setup fresh free s p found same =
-    let it = unchanged (is_next free s.clock) (turned_of setup s.clock fresh s.challenge) s.peers p found (ap (λ (x : Step). x.state.peers) same) in
-    let due = (and_parts (free || (is_under_way p || is_expired s.clock p.task)) (is_due_of s.clock p) it.0).1 in
+first_works : (setup : Setup) (fresh : ℕ) (free : Bool) (s : State) (p : Peer) → find (is_next free s.clock) s.peers ≡ Some p → takes_along setup s.clock s.peers p ≡ false → turns_with setup fresh free false s p ≡ keeps s → ⊥
+first_works setup fresh free s p found alone same =
+    let it = unchanged (is_next free s.clock) (turned_of false setup s.clock fresh s.challenge) s.peers p found (ap (λ (x : Step). x.state.peers) same) in
+    let due = (and_parts (free || (is_single p || is_expired s.clock p.task)) (is_due_of s.clock p) it.0).1 in
     let parts = and_parts (not p.over) (is_due s.clock p.task) due in
-    let on : Peer = record p { task = turned setup s.clock fresh (kind_of p) s.challenge p.task } in
-    let output : output_of setup s.clock fresh s.challenge p ≡ nothing = ap (λ (x : Step). x.output) same in
+    let on : Peer = record p { task = turned setup s.clock fresh (kind_of p) s.challenge (own_task p); shared = false } in
+    let output : output_of setup s.clock fresh s.challenge [] p ≡ nothing = ap (λ (x : Step). x.output) same in
     elim (cases_Bool (is_expired s.clock p.task)) [
       | inl here ↦ let over : given_up 0 p ≡ p = sym (cond-true (is_expired s.clock p.task) (given_up 0 p) on here) ∙ it.1 in
           true≢false (sym parts.0 ∙ ap (λ (q : Peer). not q.over) (sym over))
       | inr fails ↦ let kept : on ≡ p = sym (cond-false (is_expired s.clock p.task) (given_up 0 p) on fails) ∙ it.1 in
-          turn_works setup s.clock fresh (kind_of p) s.challenge p.task parts.1 fails (ap (λ (q : Peer). q.task) kept)
-          (sym (cond-false (is_expired s.clock p.task) nothing (turn_output setup s.clock fresh (kind_of p) s.challenge p.task) fails) ∙ output)
+          turn_works setup s.clock fresh (kind_of p) s.challenge [] (own_task p) parts.1 fails (ap (λ (q : Peer). q.task.due) kept)
+          (sym (cond-false (is_expired s.clock p.task) nothing (turn_output setup s.clock fresh (kind_of p) s.challenge [] (own_task p)) fails) ∙ output)
     ]
+
+none_pending : (o : Option Pending) → is_some o ≡ false → option_map_or (λ (q : Pending). q.sends) o 0 ≡ 0
+none_pending None is = refl
+none_pending (Some q) is = absurd (true≢false is)
+
+none_own : (shared : Bool) (o : Option Pending) → is_some o ≡ false → is_some (if shared then None else o) ≡ false
+none_own shared o is = cond_both shared None o (λ (x : Option Pending). is_some x ≡ false) (λ _. refl) (λ _. is)
+
+-- a request that names others is sent
+along_works : (setup : Setup) (fresh : ℕ) (free : Bool) (s : State) (p : Peer) → takes_along setup s.clock s.peers p ≡ true → turns_with setup fresh free true s p ≡ keeps s → ⊥
+along_works setup fresh free s p along same =
+    let fit = (and_parts (is_fit s.clock p && nat_lt 1 (counted (is_fit s.clock) s.peers)) ((nat_lt 0 setup.most_sends && nat_lt 1 setup.most_named) && not (list_any is_together s.peers)) along) in
+    let one = (and_parts (is_fit s.clock p) (nat_lt 1 (counted (is_fit s.clock) s.peers)) fit.0).0 in
+    let some = (and_parts (nat_lt 0 setup.most_sends) (nat_lt 1 setup.most_named) (and_parts (nat_lt 0 setup.most_sends && nat_lt 1 setup.most_named) (not (list_any is_together s.peers)) fit.1).0).0 in
+    let idle = and_parts (not (is_under_way p)) (not (p.wants || p.shared) && (not (is_expired s.clock p.task) && is_due_of (s.clock + seconds 30) p)) one in
+    let early = (and_parts (not (is_expired s.clock p.task)) (is_due_of (s.clock + seconds 30) p) (and_parts (not (p.wants || p.shared)) (not (is_expired s.clock p.task) && is_due_of (s.clock + seconds 30) p) idle.1).1).0 in
+    let others = others_at setup fresh free true s in
+    let may : may_send setup (own_task p) ≡ true = ap (λ (n : ℕ). nat_lt n setup.most_sends) (none_pending (own_task p).pending (none_own p.shared p.task.pending (not-true (is_under_way p) idle.0))) ∙ some in
+    let r = request_now s.clock fresh (kind_of p) s.challenge (own_task p) in
+    let sent : asks r others ≡ nothing =
+    sym (cond-false (is_expired s.clock p.task) nothing (turn_output setup s.clock fresh (kind_of p) s.challenge others (own_task p)) (not-true (is_expired s.clock p.task) early)
+    ∙ cond-true (may_send setup (own_task p)) (asks r others) nothing may) ∙ ap (λ (x : Step). x.output) same in
+    absurd cc
+
+peer_works : (setup : Setup) (fresh : ℕ) (free : Bool) (s : State) (p : Peer) → find (is_next free s.clock) s.peers ≡ Some p → turns_peer setup fresh free s p ≡ keeps s → ⊥
+peer_works setup fresh free s p found same = elim (cases_Bool (takes_along setup s.clock s.peers p)) [
+  | inl along ↦ along_works setup fresh free s p along (ap (λ (b : Bool). turns_with setup fresh free b s p) (sym along) ∙ same)
+  | inr alone ↦ first_works setup fresh free s p found alone (ap (λ (b : Bool). turns_with setup fresh free b s p) (sym alone) ∙ same)
+]
 
 next_by : (free way expired : Bool) → (free || way) ≡ true → (free || (way || expired)) ≡ true
 next_by true way expired is = refl
@@ -162,14 +193,14 @@ next_late false false = refl
 
 peer_next : (free : Bool) (clock : ℕ) (p : Peer) → is_before clock (peer_wake free p) ≡ false → is_next free clock p ≡ true
 peer_next free clock p later =
-    cond_both p.over None (Some (if free || is_under_way p then p.task.due else max p.task.due p.task.deadline)) (λ (o : Option ℕ). is_before clock o ≡ false → is_next free clock p ≡ true)
+    cond_both p.over None (Some (if free || is_single p then p.task.due else max p.task.due p.task.deadline)) (λ (o : Option ℕ). is_before clock o ≡ false → is_next free clock p ≡ true)
     (λ _ is. absurd cc)
-    (λ on it. cond_both (free || is_under_way p) p.task.due (max p.task.due p.task.deadline) (λ (n : ℕ). nat_lt clock n ≡ false → is_next free clock p ≡ true)
-    (λ here is. and_from (free || (is_under_way p || is_expired clock p.task)) (is_due_of clock p) (next_by free (is_under_way p) (is_expired clock p.task) here)
+    (λ on it. cond_both (free || is_single p) p.task.due (max p.task.due p.task.deadline) (λ (n : ℕ). nat_lt clock n ≡ false → is_next free clock p ≡ true)
+    (λ here is. and_from (free || (is_single p || is_expired clock p.task)) (is_due_of clock p) (next_by free (is_single p) (is_expired clock p.task) here)
     (and_from (not p.over) (is_due clock p.task) (ap not on) (due_by clock p.task is)))
     (λ _ is. let most = ltb-false clock (max p.task.due p.task.deadline) is in
-    and_from (free || (is_under_way p || is_expired clock p.task)) (is_due_of clock p)
-    (ap (λ (b : Bool). free || (is_under_way p || b)) (le-leb p.task.deadline clock (omega (arith, most))) ∙ next_late free (is_under_way p))
+    and_from (free || (is_single p || is_expired clock p.task)) (is_due_of clock p)
+    (ap (λ (b : Bool). free || (is_single p || b)) (le-leb p.task.deadline clock (omega (arith, most))) ∙ next_late free (is_single p))
     (and_from (not p.over) (is_due clock p.task) (ap not on) (le-leb p.task.due clock (omega (arith, most)))))
     it)
     later

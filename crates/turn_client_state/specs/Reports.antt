@@ -8,7 +8,6 @@ use Rattle.turn_client_machine.specs.Clients.{State, is_dropped, is_permitted, h
 use Rattle.turn_client_machine.specs.declared.peers.Peer.{Peer}
 use Rattle.turn_client_machine.specs.declared.phases.Phase.{Phase}
 use Rattle.turn_client_machine.specs.declared.phases.Phase.TheVariants.{Quiet, Asking, Allocated, Closing, Ended}
-use Rattle.turn_client_machine.specs.declared.phases.End.{End}
 use Rattle.turn_client_state.specs.declared.settings.Settings.{Settings}
 use Rattle.turn_client_state.specs.declared.reports.Change.{Change}
 use Rattle.turn_client_state.specs.declared.reports.Change.TheVariants.{Allocated as IsAllocated, Refreshed, Peer as PeerIs, Closing as IsClosing, Ended as HasEnded}

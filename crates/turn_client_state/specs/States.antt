@@ -1,9 +1,11 @@
 -- The machine's state that a client in memory holds, its steps, and the outputs that a call's result
 -- stands for.
 use Rattle.std.specs.Prelude.{ℕ, ◌+◌, ◌-◌, ◌*◌, ◌^◌, ◌&&◌, List, min, nat_lt, find, Option, None, Some, if◌then◌else◌}
+use Rattle.std.specs.List.{list_any}
+use Rattle.std.specs.Option.{option_map_or}
 use Rattle.stun_endpoints.specs.declared.endpoints.Endpoint.{Endpoint}
 use Rattle.turn_machine.specs.Relays.{seconds}
-use Rattle.turn_client_machine.specs.Clients.{Setup, State, is_allocated, is_active}
+use Rattle.turn_client_machine.specs.Clients.{Setup, State, is_allocated, is_active, is_permitted, has_channel}
 use Rattle.turn_client_machine.specs.declared.requests.Request.{Request}
 use Rattle.turn_client_machine.specs.declared.tasks.Pending.{Pending}
 use Rattle.turn_client_machine.specs.declared.peers.Peer.{Peer}
@@ -13,6 +15,7 @@ use Rattle.turn_client_machine.specs.Responses.{awaits_of}
 use Rattle.turn_client_machine.specs.Steps.{step}
 use Rattle.turn_client_state.specs.declared.settings.Settings.{Settings}
 use Rattle.turn_client_state.specs.declared.client.Status.{Status}
+use Rattle.turn_client_state.specs.declared.polling.Asking.{Asking}
 use Rattle.turn_client_state.specs.declared.data.Way.{Way}
 use Rattle.turn_client_state.specs.declared.data.Way.TheVariants.{Channel, Indication}
 
@@ -31,6 +34,7 @@ setup_of s = record {
   family = s.family;
   is_reliable = s.is_reliable;
   most_peers = s.most_peers;
+  most_named = min s.most_named 16;
   most_sends = s.most_sends;
   most_retries = s.most_retries;
   wait = wait_less s;
@@ -57,16 +61,28 @@ end_of since lifetime = since + seconds lifetime
 
 -- ---- Results
 
--- a request, if there is one
-abbrev pub asked_with : Option Request → Output
-asked_with None = nothing
-asked_with (Some r) = asks r
+-- a request, if there is one, and the further peers that it names
+abbrev pub asked_with : Option Request → (others : List Endpoint) → Output
+asked_with None others = nothing
+asked_with (Some r) others = asks r others
+
+-- a request as it is returned
+abbrev pub asking_with : Option Asking → Output
+asking_with None = nothing
+asking_with (Some a) = asks a.request a.others.items
 
 -- the user's data to a peer, sent so, if there is a way
 abbrev pub data_by : Endpoint → List ℕ → Option Way → Output
 data_by peer bytes None = nothing
 data_by peer bytes (Some (Channel number)) = send_on number bytes
 data_by peer bytes (Some Indication) = send_to peer bytes
+
+-- how data is sent to a peer: on its channel, if it has one, or in an indication, if the server permits
+-- its IP address (RFC 8656, sections 11.1 and 12.5)
+abbrev pub way_among : (clock : ℕ) → Endpoint → List Peer → Option Way
+way_among clock address peers =
+    option_map_or (λ p. Some (Channel p.number)) (find (has_channel clock address) peers)
+    (if list_any (is_permitted clock address.ip) peers then Some Indication else None)
 
 -- data, shown as a peer's, if there is one
 abbrev pub shown_by : List ℕ → Option Endpoint → Output

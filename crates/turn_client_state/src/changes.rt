@@ -1,12 +1,14 @@
 //! What changes of a peer.
 
-ghost use Rattle.std.specs.Prelude.{◌≡◌, [], map};
+ghost use Rattle.std.specs.Prelude.{◌≡◌, List, [], map};
+ghost use Rattle.stun_endpoints.specs.declared.endpoints.Endpoint.{Endpoint};
 ghost use Rattle.turn_client_machine.specs.declared.peers.Peer.{Peer};
 ghost use Rattle.turn_client_machine.specs.Responses as responses;
 ghost use Rattle.turn_client_machine.specs.Steps as steps;
-ghost use Rattle.turn_client_state.specs.Lookups.{changed_by};
+ghost use Rattle.turn_client_state.specs.Lookups.{test_of, changed_by};
 ghost use Rattle.turn_client_state.specs.States.{setup_of, asked_with};
 
+use crate::lookups::{Sought, passes};
 use crate::settings::Settings;
 use crate::tasks::{
     again_task, begun_task, end_of, is_expired, kept_task, may_retry, turn_request, turned,
@@ -33,8 +35,9 @@ pub(crate) enum Change {
     Challenge(Settings, Option<u64>, u64, u16),
     /// The response to its request has a wrong integrity.
     Violate(Settings),
-    /// It is polled at this moment, with a random number and the newest challenge.
-    Turn(Settings, u64, u128, Option<u64>),
+    /// It is polled at this moment, with a random number and the newest challenge. Whether its request
+    /// names other peers too comes first.
+    Turn(bool, Settings, u64, u128, Option<u64>),
 }
 
 fn restarted(clock: u64, peer: Peer) -> Peer
@@ -42,6 +45,7 @@ fn restarted(clock: u64, peer: Peer) -> Peer
 {
     Peer {
         over: false,
+        shared: false,
         violated: false,
         expires_at: 0,
         channel_expires_at: 0,
@@ -59,6 +63,27 @@ fn reopened(clock: u64, peer: Peer) -> Peer
         over: peer.over && peer.rests_until.is_some(),
         rests_until: peer.rests_until,
         ..restarted(clock, peer)
+    }
+}
+
+/// A peer, changed if it is sought.
+fn changed_if(sought: &Sought, by: &Change, peer: Peer) -> Peer
+    ensures { result ≡ responses.changed_if (test_of sought.now) (changed_by by.now) peer }
+{
+    if passes(sought, &peer) {
+        make_change(by, peer)
+    } else {
+        peer
+    }
+}
+
+/// All peers that are sought, changed.
+pub(crate) fn change_each(sought: &Sought, by: &Change, peers: &mut [Peer])
+    ensures { peers.new
+        ≡ responses.changed_each (test_of sought.now) (changed_by by.now) peers.old }
+{
+    for i in 0..peers.len() {
+        peers[i] = changed_if(sought, by, peers[i]);
     }
 }
 
@@ -83,6 +108,7 @@ pub(crate) fn new_peer(clock: u64, number: u16, wants: bool, address: Endpoint) 
         over: false,
         code: 0,
         violated: false,
+        shared: false,
         expires_at: 0,
         channel_expires_at: 0,
         task: begun_task(clock),
@@ -130,6 +156,7 @@ fn wanting(clock: u64, peer: Peer) -> Peer
         wants: true,
         wanted: true,
         violated: false,
+        shared: false,
         task: Task {
             due: peer.task.deadline.min(clock),
             deadline: peer.task.deadline.min(clock + 40_000_000_000),
@@ -149,6 +176,7 @@ fn granted_by(request: &Request, peer: Peer) -> Peer
             expires_at: end_of(request.since, 300),
             task: kept_task(request.since, 300),
             violated: false,
+            shared: false,
             ..peer
         },
         Kind::Bind { .. } => Peer {
@@ -156,6 +184,7 @@ fn granted_by(request: &Request, peer: Peer) -> Peer
             channel_expires_at: end_of(request.since, 600),
             task: kept_task(request.since, 300),
             violated: false,
+            shared: false,
             ..peer
         },
     }
@@ -184,15 +213,15 @@ fn given_up(code: u16, peer: Peer) -> Peer
     }
 }
 
-/// Whether a permission is asked for instead of a channel that is refused with a code.
+/// Whether a permission for the peer alone is asked for after a refusal with a code.
 fn asks_instead(code: u16, peer: &Peer) -> bool
     ensures { result ≡ responses.asks_instead code peer.now }
 {
-    peer.wants && code != 401 && code != 438
+    (peer.wants || peer.shared) && code != 401 && code != 438
 }
 
-/// A peer whose request was refused: if that was for a channel, a permission is asked for instead,
-/// unless the server refuses the credentials.
+/// A peer whose request was refused: if that was for a channel, or named other peers too, a permission
+/// for the peer alone is asked for instead, unless the server refuses the credentials.
 fn turned_down(clock: u64, code: u16, peer: Peer) -> Peer
     ensures { result ≡ responses.turned_down clock code peer }
 {
@@ -220,6 +249,7 @@ fn challenged(settings: Settings, known: Option<u64>, clock: u64, code: u16, pee
     Peer {
         task: again_task(clock, &peer.task),
         violated: false,
+        shared: false,
         ..peer
     }
 }
@@ -250,22 +280,37 @@ fn kind_of(peer: &Peer) -> Kind
     }
 }
 
+/// The task without a request that names other peers too.
+fn own_task(peer: &Peer) -> Task
+    ensures { result ≡ steps.own_task peer.now }
+{
+    if !peer.shared {
+        return peer.task;
+    }
+    Task {
+        pending: None,
+        ..peer.task
+    }
+}
+
 /// A peer after a poll.
 fn turned_of(
+    along: bool,
     settings: &Settings,
     clock: u64,
     fresh: u128,
     challenge: Option<u64>,
     peer: Peer,
 ) -> Peer
-    ensures { result ≡ steps.turned_of (setup_of settings.now) clock fresh challenge peer }
+    ensures { result ≡ steps.turned_of along (setup_of settings.now) clock fresh challenge peer }
 {
     if is_expired(clock, &peer.task) {
         return given_up(0, peer);
     }
     let kind = kind_of(&peer);
     Peer {
-        task: turned(settings, clock, fresh, kind, challenge, &peer.task),
+        task: turned(settings, clock, fresh, kind, challenge, &own_task(&peer)),
+        shared: along,
         ..peer
     }
 }
@@ -278,14 +323,14 @@ pub(crate) fn request_of(
     challenge: Option<u64>,
     peer: &Peer,
 ) -> Option<Request>
-    ensures { asked_with result
-        ≡ steps.output_of (setup_of settings.now) clock fresh challenge peer.now }
+    ensures { (others : List Endpoint) → asked_with result others
+        ≡ steps.output_of (setup_of settings.now) clock fresh challenge others peer.now }
 {
     if is_expired(clock, &peer.task) {
         return None;
     }
     let kind = kind_of(peer);
-    turn_request(settings, clock, fresh, kind, challenge, &peer.task)
+    turn_request(settings, clock, fresh, kind, challenge, &own_task(peer))
 }
 
 /// A peer after a change.
@@ -303,8 +348,8 @@ pub(crate) fn make_change(by: &Change, peer: Peer) -> Peer
             challenged(*settings, *known, *clock, *code, peer)
         }
         Change::Violate(settings) => violated_by(settings, peer),
-        Change::Turn(settings, clock, fresh, challenge) => {
-            turned_of(settings, *clock, *fresh, *challenge, peer)
+        Change::Turn(along, settings, clock, fresh, challenge) => {
+            turned_of(*along, settings, *clock, *fresh, *challenge, peer)
         }
     }
 }

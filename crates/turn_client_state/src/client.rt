@@ -39,14 +39,14 @@ use turn_client_machine::{End, Peer, Pending, Phase, Request, Task};
 /// assert_eq!(rt; client.permit(0, peer), Ok(()));
 ///
 /// // The server grants the allocation for 600 seconds; 1 is a random transaction ID.
-/// assert!(rt; matches!(client.poll(0, 1), Some(request) if request.kind == Kind::Allocate));
+/// assert!(rt; matches!(&client.poll(0, 1), Some(asking) if asking.request.kind == Kind::Allocate));
 /// let opened = Answer::Opened { relayed: server, mapped: address(0xCB00_7101), lifetime: 600 };
 /// client.on_response(1, server, 1, true, opened);
 /// assert_eq!(rt; client.status().phase, Phase::Allocated);
 ///
 /// // Data goes to the peer once its permission is granted.
 /// assert_eq!(rt; client.send(2, peer), None);
-/// assert!(rt; matches!(client.poll(2, 2), Some(request) if request.kind == Kind::Permit(peer)));
+/// assert!(rt; matches!(&client.poll(2, 2), Some(asking) if asking.request.kind == Kind::Permit(peer)));
 /// client.on_response(3, server, 2, true, Answer::Done);
 /// assert_eq!(rt; client.send(4, peer), Some(Way::Indication));
 /// // The permission is renewed after four minutes.

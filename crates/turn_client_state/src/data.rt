@@ -5,7 +5,6 @@ ghost use Rattle.turn_client_machine.specs.Events.{sends, gives, gives_on, shows
 ghost use Rattle.turn_client_state.specs.States.{after, output_at, data_by, shown_by};
 
 use crate::client::ClientState;
-use crate::lookups::Sought;
 use crate::phases::is_allocated;
 use stun_endpoints::Endpoint;
 
@@ -30,14 +29,7 @@ impl ClientState {
         if !is_allocated(self.phase) || self.expires_at <= self.clock as u128 {
             return None;
         }
-        if let Some(found) = self.peers.find(&Sought::WithChannel(self.clock, peer)) {
-            return Some(Way::Channel(found.number));
-        }
-        if self.peers.any(&Sought::Permitted(self.clock, peer.ip)) {
-            Some(Way::Indication)
-        } else {
-            None
-        }
+        self.peers.way(self.clock, peer)
     }
 
     /// A Data indication has arrived from an address, with data of a peer (RFC 8656, section 11.4).
@@ -51,7 +43,7 @@ impl ClientState {
         self.advance(now);
         from == self.settings.server
             && is_allocated(self.phase)
-            && self.peers.any(&Sought::Permitted(self.clock, peer.ip))
+            && self.peers.permits(self.clock, peer.ip)
     }
 
     /// A ChannelData message has arrived from an address (RFC 8656, section 12.6). Returns the peer

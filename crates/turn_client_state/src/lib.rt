@@ -22,6 +22,7 @@ mod waking;
 pub use client::{ClientState, Status};
 pub use data::Way;
 pub use naming::NameError;
+pub use polling::Asking;
 pub use reports::{Change, Changes, Report, Standing};
 pub use settings::Settings;
 pub use waking::{polls_after_do_something, polls_before_do_nothing};

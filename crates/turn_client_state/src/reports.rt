@@ -4,7 +4,7 @@ ghost use Rattle.std.specs.Prelude.{◌≡◌, true, IfOk, reverse, slice_set, �
 ghost use Rattle.turn_client_state.specs.Reports as reports;
 
 use crate::client::ClientState;
-use crate::lookups::{Sought, passes};
+use crate::lookups::{has_channel, is_permitted};
 use crate::settings::Settings;
 use std::alloc::{AllocError, Global};
 use std::marker::Model;
@@ -118,10 +118,10 @@ fn standing_of(clock: u64, peer: &Peer) -> Standing
     if peer.over {
         return Standing::Over;
     }
-    if passes(&Sought::WithChannel(clock, peer.address), peer) {
+    if has_channel(clock, peer.address, peer) {
         return Standing::Bound;
     }
-    if passes(&Sought::Permitted(clock, peer.address.ip), peer) {
+    if is_permitted(clock, peer.address.ip, peer) {
         return Standing::Permitted;
     }
     Standing::Asked

@@ -140,16 +140,16 @@ impl ClientState {
         }
     }
 
-    /// Changes the peer whose request under way has this transaction ID.
-    fn change_peer(&mut self, id: u128, by: &Change)
+    /// Changes each peer whose request under way has this transaction ID.
+    fn change_peers(&mut self, id: u128, by: &Change)
         ensures { self.new ≡ record self.old {
-          state = responses.with_peer id (changed_by by.now) self.old.state;
+          state = responses.with_peers id (changed_by by.now) self.old.state;
         } }
     {
-        self.peers.change(&Sought::Awaiting(id), by);
+        self.peers.change_all(&Sought::Awaiting(id), by);
     }
 
-    /// The response to a request for a peer.
+    /// The response to a request for peers.
     fn take_peer_answer(&mut self, id: u128, authentic: bool, answer: Answer)
         ensures { self.new ≡ record self.old {
           state = responses.answered_peer (setup_of self.old.settings) id authentic answer self.old.state;
@@ -159,7 +159,7 @@ impl ClientState {
             Answer::Opened { .. } | Answer::Extended { .. } | Answer::Redirected(_) => {}
             Answer::Done => {
                 if authentic {
-                    self.change_peer(id, &Change::Grant);
+                    self.change_peers(id, &Change::Grant);
                 }
             }
             Answer::Refused(code) => {
@@ -167,17 +167,17 @@ impl ClientState {
                     self.end(End::Rejected(437));
                 } else if authentic {
                     let by = Change::TurnDown(self.clock, code);
-                    self.change_peer(id, &by);
+                    self.change_peers(id, &by);
                 }
             }
             Answer::Challenged { code, challenge } => {
                 let by = Change::Challenge(self.settings, self.challenge, self.clock, code);
                 self.challenge = Some(challenge);
-                self.change_peer(id, &by);
+                self.change_peers(id, &by);
             }
             Answer::Violated => {
                 let by = Change::Violate(self.settings);
-                self.change_peer(id, &by);
+                self.change_peers(id, &by);
             }
         }
     }

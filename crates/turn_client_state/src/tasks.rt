@@ -1,7 +1,8 @@
 //! When a request is sent, sent again, and given up (RFC 8656, sections 8.1, 10.1 and 12.1; RFC
 //! 8489, section 6.2.1).
 
-ghost use Rattle.std.specs.Prelude.{◌≡◌, ◌*◌, ◌<◌, ◌≤◌, ◌^◌};
+ghost use Rattle.std.specs.Prelude.{◌≡◌, ◌*◌, ◌<◌, ◌≤◌, ◌^◌, List};
+ghost use Rattle.stun_endpoints.specs.declared.endpoints.Endpoint.{Endpoint};
 ghost use Rattle.turn_client_machine.specs.Tasks as machine;
 ghost use Rattle.turn_client_state.specs.States as states;
 ghost use Rattle.turn_client_state.specs.States.{setup_of, asked_with};
@@ -182,8 +183,8 @@ pub(crate) fn turn_request(
     challenge: Option<u64>,
     task: &Task,
 ) -> Option<Request>
-    ensures { asked_with result
-        ≡ machine.turn_output (setup_of settings.now) clock fresh kind challenge task.now }
+    ensures { (others : List Endpoint) → asked_with result others
+        ≡ machine.turn_output (setup_of settings.now) clock fresh kind challenge others task.now }
 {
     if sends_so_far(task) < settings.most_sends {
         Some(request_now(clock, fresh, kind, challenge, task))

@@ -7,6 +7,9 @@ use std::net::IpAddr;
 use stun_endpoints::Ip;
 use thiserror::Error;
 
+/// One more than the greatest number of 64 bits: IPv4 addresses are compared faster as such.
+const WORD: u128 = 1 << 64;
+
 /// How many bits an address of this family has.
 fn width(family: u8) -> u8
     ensures width { result ≡ width family }
@@ -21,6 +24,17 @@ fn without_last(number: u128, dropped: u8) -> u128
     ensures { result ≡ number / 2 ^ dropped }
 {
     number.checked_shr(dropped as u32).unwrap_or(0)
+}
+
+/// Whether two numbers are equal but for the last `dropped` bits.
+fn begin_alike(one: u128, other: u128, dropped: u8) -> bool
+    requires { dropped ≤ 128 }
+    ensures { result ≡ (one / 2 ^ dropped == other / 2 ^ dropped) }
+{
+    if one < WORD && other < WORD && dropped < 64 {
+        return (one as u64) >> dropped == (other as u64) >> dropped;
+    }
+    without_last(one, dropped) == without_last(other, dropped)
 }
 
 /// Whether one of the last bits of a number is 1.
@@ -115,8 +129,10 @@ impl Prefix {
     pub(crate) fn contains(&self, ip: Ip) -> bool
         ensures { result ≡ contains ip self.now }
     {
+        if self.network.family != ip.family {
+            return false;
+        }
         let dropped = width(self.network.family).saturating_sub(self.length);
-        self.network.family == ip.family
-            && without_last(ip.number, dropped) == without_last(self.network.number, dropped)
+        begin_alike(ip.number, self.network.number, dropped)
     }
 }

@@ -57,7 +57,7 @@ impl PeerRange {
     {
         match port {
             Some(port) => self.allows(ip, Some(port)),
-            None => self.has_all_ports() && self.prefix.contains(ip),
+            None => self.prefix.contains(ip) && self.has_all_ports(),
         }
     }
 

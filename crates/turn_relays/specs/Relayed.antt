@@ -1,7 +1,8 @@
 -- The relayed addresses in slots, and the state of the machine that they are (RFC 8656, sections 6, 9 and 12).
-use Rattle.std.specs.Prelude.{◌≡◌, ◌⊎◌, ℕ, ◌+◌, ◌*◌, ◌<◌, ◌≤◌, List, [], ◌∷◌, filter, ◌==◌, Option, None, Some, length, slice_index_or, slice_set}
+use Rattle.std.specs.Prelude.{◌≡◌, ◌⊎◌, ℕ, ◌+◌, ◌*◌, ◌<◌, ◌≤◌, true, false, List, [], ◌∷◌, filter, ◌==◌, Option, None, Some, IfSome, IfNone, length, slice_index_or, slice_set}
 use Rattle.std.specs.Option.{option_map_or}
 use Rattle.stun_endpoints.specs.declared.endpoints.Endpoint.{Endpoint}
+use Rattle.stun_endpoints.specs.declared.endpoints.FiveTuple.{FiveTuple}
 use Rattle.turn_slots.specs.declared.relay_key.RelayKey.{RelayKey}
 use Rattle.turn_slots.specs.declared.slots.Entry.{Entry}
 use Rattle.turn_slots.specs.Users.{user_number}
@@ -9,7 +10,7 @@ use Rattle.turn_slots.specs.Numbers.{rounds, places}
 use Rattle.turn_slots.specs.declared.hashing.Secret.{Secret}
 use Rattle.turn_machine.specs.declared.grants.Permission.{Permission}
 use Rattle.turn_machine.specs.declared.grants.Channel.{Channel}
-use Rattle.turn_machine.specs.Relays.{Relay, State}
+use Rattle.turn_machine.specs.Relays.{Relay, State, is_for}
 use Rattle.turn_machine.specs.Rows.{with_permission_for, with_permissions, with_channel}
 use Rattle.turn_relays.specs.Newest.{newest_first}
 
@@ -105,6 +106,12 @@ Holds t slot r = at_slot t slot ≡ Some r
 -- this is so of each relayed address
 abbrev pub Each : Table → (Relay → Type 0) → Type 0
 Each t P = (slot : ℕ) (r : Relay) → Holds t slot r → P r
+
+-- the slot of the client's relayed address of a family, or none if the client has none
+pub record IsSlotFor (t : Table) (tuple : FiveTuple) (family : ℕ) (found : Option ℕ) : Type 0 where
+  pub some : IfSome found (λ slot. (r : Relay) × Holds t slot r × (is_for tuple family r ≡ true))
+  pub none : IfNone found (Each t (λ r. is_for tuple family r ≡ false))
+  pub only : (slot : ℕ) (r : Relay) → Holds t slot r → is_for tuple family r ≡ true → found ≡ Some slot
 
 -- a slot gets a relayed address, or none, and nothing else changes
 abbrev pub with_slot : (slot : ℕ) → Option Relay → Table → Table

@@ -1,11 +1,13 @@
 //! What is kept of a relayed address besides its entry in the slots.
 
 use crate::binding::{has_room, put as put_channel};
+use crate::flows::Flow;
 use crate::permitting::{copy_of, put as put_permission, put_all};
 use arrayvec::ArrayVec;
 use std::marker::Model;
 use stun_endpoints::{Endpoint, Ip};
 use turn_machine::{Channel, Permission};
+use turn_slots::Entry;
 
 /// What is kept of a relayed address besides its entry in the slots. Permissions and channels are inline.
 #[derive(Drop)]
@@ -46,7 +48,8 @@ impl<const P: usize, const C: usize> Kept<P, C> {
     ghost use Rattle.std.specs.List.{list_any};
     ghost use Rattle.turn_machine.specs.Relays.{seconds, is_permission, is_channel, is_channel_of};
     ghost use Rattle.turn_machine.specs.Rows.{clashes, with_permission_for, with_permissions, with_channel};
-    ghost use Rattle.turn_relays.specs.Relayed.{new_grants, bound};
+    ghost use Rattle.turn_machine.specs.Flows.{flow_on};
+    ghost use Rattle.turn_relays.specs.Relayed.{new_grants, bound, relay_of};
 
     /// Makes one with no permissions and no channels.
     pub(crate) fn new(transaction_id: u128, address: Endpoint) -> Self
@@ -69,6 +72,14 @@ impl<const P: usize, const C: usize> Kept<P, C> {
         self.permissions
             .iter()
             .any(|p| ip == p.ip && now < p.expires_at)
+    }
+
+    fn permission_for(&self, now: u128, ip: Ip) -> Option<&Permission>
+        ensures { option_copied result ≡ find (is_permission now ip) self.now.permissions }
+    {
+        self.permissions
+            .iter()
+            .find(|p| ip == p.ip && now < p.expires_at)
     }
 
     fn channel_by_number(&self, now: u128, number: u16) -> Option<&Channel>
@@ -95,6 +106,20 @@ impl<const P: usize, const C: usize> Kept<P, C> {
             Some(channel) => Some(channel.peer),
             None => None,
         }
+    }
+
+    /// The flow on a channel of the relayed address with this entry.
+    pub(crate) fn flow_on(&self, now: u128, entry: &Entry, channel: u16) -> Option<Flow>
+        ensures { result ≡ flow_on now channel (relay_of entry.now self.now) }
+    {
+        let channel = self.channel_by_number(now, channel)?;
+        let permission = self.permission_for(now, channel.peer.ip)?;
+        let first = channel.expires_at.min(permission.expires_at);
+        Some(Flow {
+            number: entry.number,
+            peer: channel.peer,
+            expires_at: entry.deadline.min(first),
+        })
     }
 
     /// The channel that is bound to a peer.

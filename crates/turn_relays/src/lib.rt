@@ -9,6 +9,7 @@
 
 mod binding;
 mod facts;
+mod flows;
 mod granting;
 mod iter;
 mod kept;
@@ -17,6 +18,7 @@ mod permitting;
 mod relayed;
 mod relays;
 
+pub use flows::Flow;
 pub use iter::Iter;
 pub use laws::{list_follows_slots, lists_have_slots};
 pub use relayed::{Relayed, users_are_numbers};

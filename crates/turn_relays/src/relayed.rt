@@ -36,7 +36,7 @@ pub fn users_are_numbers(user: UserId)
 {}
 
 /// The entry in a slot.
-fn entry_at(entries: &[Option<Entry>], slot: usize) -> Option<Entry>
+pub(crate) fn entry_at(entries: &[Option<Entry>], slot: usize) -> Option<Entry>
     ensures { result ≡ slice_index_or entries.now slot None }
 {
     match entries.get(slot) {

@@ -6,12 +6,12 @@ ghost use Rattle.turn_slots.specs.Hashes.{secret_of};
 ghost use Rattle.turn_slots.specs.Users.{user_number};
 ghost use Rattle.turn_machine.specs.Relays.{Relay, is_for, is_users, is_at};
 ghost use Rattle.turn_relays.specs.Facts.{IsFirstEnd};
-ghost use Rattle.turn_relays.specs.Relayed.{relay_of, new_grants, Table, state_of, at_slot, Holds, Each, with_slot, opened, Opens, IsClosed, NumbersLast};
+ghost use Rattle.turn_relays.specs.Relayed.{relay_of, new_grants, Table, state_of, at_slot, Holds, Each, IsSlotFor, with_slot, opened, Opens, IsClosed, NumbersLast};
 
 use crate::kept::Kept;
 use std::alloc::{AllocError, Global};
 use std::marker::Model;
-use stun_endpoints::Endpoint;
+use stun_endpoints::{Endpoint, FiveTuple};
 use turn_slots::{Entry, RelayKey, Slots, UserId};
 
 /// The relayed addresses of a TURN server, each with up to `P` permissions and `C` channels (RFC 8656,
@@ -223,6 +223,28 @@ impl<const P: usize, const C: usize> Relays<P, C> {
             → is_for key.now.tuple key.now.family r ≡ true → result ≡ Some slot }
     {
         self.slots.find_by_key(key)
+    }
+
+    /// Returns the slots of the client's relayed addresses for IPv4 and IPv6, each as
+    /// [`Relays::find_by_key`] returns it, with one hash for both.
+    ///
+    /// ```
+    /// use stun_endpoints::Endpoint;
+    /// use turn_relays::Relays;
+    /// use turn_slots::{RelayKey, UserId};
+    ///
+    /// let mut relays = Relays::<16, 8>::new(alloc, 2, [1, 2])?;
+    /// let ipv6 = RelayKey { family: 2, ..RelayKey::default() };
+    /// assert!(rt; relays.open(ipv6, UserId::default(), 7, Endpoint::default(), 600).is_some());
+    /// let slot = relays.find_by_key(&ipv6);
+    /// assert!(rt; slot.is_some());
+    /// assert_eq!(rt; relays.find_by_client(&ipv6.tuple), (None, slot));
+    /// ```
+    pub fn find_by_client(&self, tuple: &FiveTuple) -> (Option<usize>, Option<usize>)
+        ensures ipv4 { IsSlotFor self.now tuple.now 1 result.0 }
+        ensures ipv6 { IsSlotFor self.now tuple.now 2 result.1 }
+    {
+        self.slots.find_by_client(tuple)
     }
 
     /// Returns the slot of the relayed address with a number, or `None` if no relayed address has it.

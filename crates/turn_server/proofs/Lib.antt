@@ -3,6 +3,7 @@ mod JudgingLemmas
 mod ReportingLemmas
 mod DatagramsLemmas
 mod RelayedLemmas
+mod FlowsLemmas
 mod ReservedLemmas
 mod StrangersLemmas
 mod AnswersLemmas

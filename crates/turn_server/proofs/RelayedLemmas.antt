@@ -128,3 +128,17 @@ pub send_passes : (setup : Setup) (rules : Rules) (h : OuterState) (now : ℕ) (
     → act site setup rules tuple numbers h now d ≡ sends_to number peer whole bytes
 send_passes setup rules h now site tuple numbers d bytes number peer whole judged out =
     ap (λ (j : Judged). acted setup rules tuple numbers h now j) judged ∙ ap data_act out
+
+pub channel_passes : (setup : Setup) (rules : Rules) (h : OuterState) (now : ℕ) (site : Site) (tuple : FiveTuple) (numbers : Families ℕ) (d bytes : List ℕ) (number channel : ℕ) (peer : Endpoint)
+    → judge setup.last_channel setup.supports_dont_fragment site d ≡ sent_on channel bytes → (step setup rules h.state now (sends_on tuple channel bytes)).output ≡ to_peer number peer false bytes
+    → act site setup rules tuple numbers h now d ≡ sends_to number peer false bytes
+channel_passes setup rules h now site tuple numbers d bytes number channel peer judged out =
+    ap (λ (j : Judged). acted setup rules tuple numbers h now j) judged ∙ ap data_act out
+
+-- and what passes is the output
+pub channel_passed : (setup : Setup) (rules : Rules) (h : OuterState) (now : ℕ) (site : Site) (tuple : FiveTuple) (numbers : Families ℕ) (d bytes : List ℕ) (number channel : ℕ) (peer : Endpoint)
+    → judge setup.last_channel setup.supports_dont_fragment site d ≡ sent_on channel bytes → act site setup rules tuple numbers h now d ≡ sends_to number peer false bytes
+    → (step setup rules h.state now (sends_on tuple channel bytes)).output ≡ to_peer number peer false bytes
+channel_passed setup rules h now site tuple numbers d bytes number channel peer judged goes =
+    data_is number peer false bytes (step setup rules h.state now (sends_on tuple channel bytes)).output
+    (ap (λ (j : Judged). acted setup rules tuple numbers h now j) (sym judged) ∙ goes)

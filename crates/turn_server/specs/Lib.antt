@@ -9,6 +9,7 @@ pub mod ChannelMessages
 pub mod Comprehended
 pub mod Datagrams
 pub mod Delivering
+pub mod Flows
 pub mod HeaderFields
 pub mod Icmp
 pub mod Indications

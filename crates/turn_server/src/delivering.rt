@@ -68,16 +68,16 @@ fn data_head(
 fn head_for(
     to: &ToClient,
     id: TransactionId,
-    peer: SocketAddr,
+    peer: Endpoint,
     data_length: usize,
     head: &mut [u8],
 ) -> Option<(u16, u16)>
-    ensures { WritesHead (has_head to.now.tuple to.now.channel peer data_length (length head.old))
-        data_length (message_by to.now.tuple to.now.channel id peer) head.old head.new result }
+    ensures { WritesHead (has_head to.now.tuple to.now.channel (socket_of peer) data_length (length head.old))
+        data_length (message_by to.now.tuple to.now.channel id (socket_of peer)) head.old head.new result }
 {
     match to.channel {
         Some(number) => channel_head(&to.tuple, number, data_length, head),
-        None => data_head(&to.tuple, id, peer, data_length, head),
+        None => data_head(&to.tuple, id, SocketAddr::from(peer), data_length, head),
     }
 }
 
@@ -91,7 +91,7 @@ pub(crate) fn deliver(
 ) -> Option<Delivery>
     ensures { DeliversTo to.now length id (socket_of peer) before.old before.new result }
 {
-    let (head_length, padding) = head_for(to, id, SocketAddr::from(peer), length, before)?;
+    let (head_length, padding) = head_for(to, id, peer, length, before)?;
     Some(Delivery {
         to: to.tuple,
         head_length,

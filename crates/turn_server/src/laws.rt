@@ -1,7 +1,7 @@
 //! What holds of every datagram, and of all that come in whatever order. Each function does nothing:
 //! its contract is the law.
 
-ghost use Rattle.std.specs.Prelude.{◌≡◌, ◌≢◌, ◌≤◌, ◌&&◌, ◌==◌, not, filter, ℕ, [], ◌∷◌, List, Bool, Option, Some, None, IsSomeAnd, length, true, false};
+ghost use Rattle.std.specs.Prelude.{◌≡◌, ◌≢◌, ◌<◌, ◌≤◌, ◌&&◌, ◌==◌, not, filter, ℕ, [], ◌∷◌, ◌++◌, List, Bool, Option, Some, None, IsSomeAnd, length, true, false};
 ghost use Rattle.std.specs.List.{AllByRecursion};
 ghost use Rattle.stun_grammar.specs.declared.integrity_algorithm.IntegrityAlgorithm.{IntegrityAlgorithm};
 ghost use Rattle.stun_grammar.specs.Accepting.{IsAuthenticThrough};
@@ -16,7 +16,8 @@ ghost use Rattle.stun_values.specs.declared.algorithm.PasswordAlgorithmValue.{Pa
 ghost use Rattle.stun_endpoints.specs.declared.endpoints.FiveTuple.{FiveTuple};
 ghost use Rattle.turn_machine.specs.Apart.{own, sights};
 ghost use Rattle.turn_machine.specs.Bounds.{IsWithin};
-ghost use Rattle.turn_machine.specs.Events.{Request, Icmp, allocate, asks, arrives, bounces, to_client_icmp};
+ghost use Rattle.turn_machine.specs.Events.{Request, Icmp, allocate, asks, arrives, bounces, to_client_on, to_client_icmp};
+ghost use Rattle.turn_machine.specs.Flows.{Flow, flow_of, is_change, IsFirstEnd};
 ghost use Rattle.turn_machine.specs.Granting.{IsFree, IsFit};
 ghost use Rattle.turn_machine.specs.Lists.{SomeOf};
 ghost use Rattle.turn_machine.specs.Relays.{Setup, Rules};
@@ -37,7 +38,8 @@ ghost use Rattle.turn_server.specs.declared.sockets.Sockets.{Sockets};
 ghost use Rattle.turn_server.specs.Access.{seconds_of, IsRecent};
 ghost use Rattle.turn_server.specs.Acting.{act, stepped, sends_to};
 ghost use Rattle.turn_server.specs.Datagrams.{Moment, events_in, past, kept, happened, clock_at, Came, IsRequest, IsRelayed};
-ghost use Rattle.turn_server.specs.Judging.{Site, dropped, sent, asked, event_of, is_asked, judge};
+ghost use Rattle.turn_server.specs.Flows.{IsLeft, may_change};
+ghost use Rattle.turn_server.specs.Judging.{Site, dropped, sent, sent_on, asked, event_of, is_asked, judge};
 ghost use Rattle.turn_server.specs.Judgments.{IsSo, Asks, IsDecided};
 ghost use Rattle.turn_server.specs.Reserved.{AreReserved, offer_of, want_of};
 ghost use Rattle.turn_server.specs.Sites.{site_of};
@@ -46,8 +48,8 @@ ghost use Rattle.stun_authentication.specs.Answers.{accept};
 
 use stun_authentication::{accepted_is_authentic, nonces_are_timed};
 use turn_machine::{
-    clients_are_apart, relaying_is_warranted, reservations_are_kept, strangers_get_little,
-    table_is_bounded, what_is_permitted_works,
+    clients_are_apart, flows_are_right, relaying_is_warranted, reservations_are_kept,
+    strangers_get_little, table_is_bounded, what_is_permitted_works,
 };
 use turn_reservations::reserving_calls_are_a_run;
 
@@ -216,6 +218,57 @@ pub fn permitted_datagrams_pass()
 {
     reservations_are_kept();
     what_is_permitted_works();
+}
+
+/// What [`TurnServer::flow`](crate::TurnServer::flow) returns lasts until it expires, whatever else comes, unless
+/// a request of its client succeeds, or the caller ends its relayed address or all of its user. So neither a
+/// datagram of another client or a peer, nor data of this client, nor an ICMP packet changes it, nor time before
+/// it expires. As long as it lasts, if the rules in force allow the peer, each ChannelData message of the client on
+/// the channel goes from the socket to the peer, byte for byte and without the DF bit, and each datagram of the
+/// peer to that socket goes to the client on the channel. If both are so of a channel, it has that flow. A flow
+/// expires at the first end of the relayed address, the channel, and the permission for the peer's IP address.
+pub fn flows_last()
+    ensures lasting { (setup : Setup) (later earlier : List Moment) (tuple : FiveTuple)
+        (channel user : ℕ) (flow : Flow)
+        → flow_of (kept setup earlier).state tuple channel ≡ Some flow
+        → AllByRecursion (λ a. a.number ≡ flow.number → a.user ≡ user) (kept setup earlier).state.relays
+        → IsLeft setup tuple user flow.number later earlier
+        → (kept setup (later ++ earlier)).state.clock < flow.expires_at
+        → flow_of (kept setup (later ++ earlier)).state tuple channel ≡ Some flow }
+    ensures others { (setup : Setup) (tuple : FiveTuple) (user number : ℕ) (earlier : List Moment)
+        (m : Moment) → may_change setup tuple user number m.arrival ≡ false
+        → is_change tuple user number (happened setup earlier m) ≡ false }
+    ensures out { (setup : Setup) (rules : Rules) (earlier : List Moment) (now : ℕ) (site : Site)
+        (tuple : FiveTuple) (numbers : Families ℕ) (d : List ℕ) (channel : ℕ) (flow : Flow)
+        (bytes : List ℕ) → flow_of (kept setup earlier).state tuple channel ≡ Some flow
+        → now < flow.expires_at
+        → (rules.allows_ip flow.peer.ip && rules.allows_port flow.peer) ≡ true
+        → judge setup.last_channel setup.supports_dont_fragment site d ≡ sent_on channel bytes
+        → act site setup rules tuple numbers (kept setup earlier) now d
+        ≡ sends_to flow.number flow.peer false bytes }
+    ensures back { (setup : Setup) (rules : Rules) (earlier : List Moment) (now : ℕ)
+        (tuple : FiveTuple) (channel : ℕ) (flow : Flow) (bytes : List ℕ)
+        → flow_of (kept setup earlier).state tuple channel ≡ Some flow → now < flow.expires_at
+        → rules.allows_ip flow.peer.ip ≡ true
+        → (step setup rules (kept setup earlier).state now (arrives flow.number flow.peer bytes)).output
+        ≡ to_client_on tuple channel bytes }
+    ensures exact { (setup : Setup) (rules : Rules) (earlier : List Moment) (now : ℕ) (site : Site)
+        (tuple : FiveTuple) (numbers : Families ℕ) (d : List ℕ) (channel number : ℕ) (peer : Endpoint)
+        (bytes other : List ℕ)
+        → judge setup.last_channel setup.supports_dont_fragment site d ≡ sent_on channel bytes
+        → act site setup rules tuple numbers (kept setup earlier) now d
+        ≡ sends_to number peer false bytes
+        → (step setup rules (kept setup earlier).state now (arrives number peer other)).output
+        ≡ to_client_on tuple channel other
+        → (flow : Flow) × (flow_of (kept setup earlier).state tuple channel ≡ Some flow)
+        × (flow.number ≡ number) × (flow.peer ≡ peer) × (now < flow.expires_at) }
+    ensures least { (setup : Setup) (earlier : List Moment) (tuple : FiveTuple) (channel : ℕ)
+        (flow : Flow) → flow_of (kept setup earlier).state tuple channel ≡ Some flow
+        → ((kept setup earlier).state.clock < flow.expires_at)
+        × IsFirstEnd tuple channel flow (kept setup earlier).state }
+{
+    reservations_are_kept();
+    flows_are_right();
 }
 
 /// What a client is answered, and where its data and its peers' data go, is determined by its own datagrams

@@ -37,8 +37,9 @@ pub use answers::codes_are_written;
 pub use comprehended::{COMPREHENDED, COMPREHENDED_WITH_DONT_FRAGMENT};
 pub use header_fields::{IpVersion, ReceivedFields, RelayedData, SentFields, fields_to_send};
 pub use laws::{
-    clients_do_not_meet, datagrams_are_warranted, judgments_are_so, permitted_datagrams_pass,
-    requests_are_authentic, reservations_are_for_their_users, strangers_change_nothing,
+    clients_do_not_meet, datagrams_are_warranted, flows_last, judgments_are_so,
+    permitted_datagrams_pass, requests_are_authentic, reservations_are_for_their_users,
+    strangers_change_nothing,
 };
 pub use peers::PEERS;
 pub use server::TurnServer;

@@ -4,6 +4,7 @@ ghost use Rattle.std.specs.Prelude.{◌≡◌, ◌<◌, ◌≤◌, ◌^◌, [], 
 ghost use Rattle.std.specs.List.Sorted.{IsPermutation};
 ghost use Rattle.turn_machine.specs.Relays.{Rules};
 ghost use Rattle.turn_machine.specs.Events.{ends, ends_user, ticks, nothing};
+ghost use Rattle.turn_machine.specs.Flows.{flow_of};
 ghost use Rattle.turn_machine.specs.Reserving.{plain};
 ghost use Rattle.turn_machine.specs.Runs.{initial_state};
 ghost use Rattle.turn_slots.specs.Users.{user_number};
@@ -20,8 +21,8 @@ use crate::judging::needs_key;
 use std::alloc::{AllocError, Global};
 use std::marker::Model;
 use std::net::SocketAddr;
-use stun_endpoints::Endpoint;
-use turn_allocations::{Iter, Limits};
+use stun_endpoints::{Endpoint, FiveTuple};
+use turn_allocations::{Flow, Iter, Limits};
 use turn_reservations::ReservingAllocations;
 use turn_slots::UserId;
 
@@ -276,6 +277,23 @@ impl<const P: usize, const C: usize> TurnServer<P, C> {
         let old_channels = self.allocations.limits().old_channels;
         let nonces = access.nonces_of(now, SocketAddr::from(client));
         needs_key(datagram, old_channels, access.policy, &nonces)
+    }
+
+    /// Returns the flow on a channel of a client: the socket and the peer between which, until it expires, a
+    /// program can relay the data of the channel in both directions without asking the server for each
+    /// datagram.
+    ///
+    /// [`flows_last`](crate::flows_last) states what the flow promises. Ask again once a request of this client
+    /// was answered with success, or after [`TurnServer::end`] or [`TurnServer::end_user`]; no other call changes
+    /// it before it expires. It doesn't depend on the policy: drop the flows to a peer that becomes forbidden.
+    ///
+    /// Returns `None` if, at the latest moment of any call, no relayed address of the client has the channel, or
+    /// there is no permission for the IP address of the peer that it is bound to. The cost doesn't depend on how
+    /// many allocations there are. It takes no memory, and ends nothing.
+    pub fn flow(&self, client: &FiveTuple, channel: u16) -> Option<Flow>
+        ensures { result ≡ flow_of self.now.holding.state client.now channel }
+    {
+        self.allocations.allocations().flow(client, channel)
     }
 
     /// Ends the relayed address with a number, for example that of a client whose connection is closed. Ends

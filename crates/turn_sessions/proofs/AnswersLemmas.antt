@@ -241,10 +241,15 @@ relayed_one id one (inr e) = rw e refl
 
 -- ---- It is judged
 
-pub success_heard : AreOfEndpoints → IsFirst → IsMissing → AreHeard → (dealing : Dealing) (r : Asked) (login : Credentials) (software : Option (List ℕ)) (client : Endpoint) (q : List ℕ) (answer : Answer) (key : List ℕ) (a : IntegrityAlgorithm)
+-- a fit success response to a request, and what it says
+pub record IsSaid (r : Asked) (heard : Heard) (d : List ℕ) : Type 0 where
+  pub fits : IsFit r d
+  pub says_so : success r.request.kind d ≡ heard
+
+pub success_said : AreOfEndpoints → IsFirst → IsMissing → (r : Asked) (login : Credentials) (software : Option (List ℕ)) (client : Endpoint) (q : List ℕ) (answer : Answer) (key : List ℕ) (a : IntegrityAlgorithm)
     → IsOf r q → r.login ≡ Some login → WorksAs key a login.key → IsTransport client → IfSome software (λ name. length name ≤ 763) → IsSuccess r.request.kind answer
-    → judge dealing (Some r) (answer_text software client q answer None key a) ≡ response (id_of r.request) true (says client answer)
-success_heard sockets first missing heard dealing r login software client q answer key a of has_login works its short is = by r.request.kind refl answer is
+    → IsSaid r (says client answer) (answer_text software client q answer None key a)
+success_said sockets first missing r login software client q answer key a of has_login works its short is = by r.request.kind refl answer is
   where
     id : ℕ
     id = id_field q
@@ -271,28 +276,28 @@ success_heard sockets first missing heard dealing r login software client q answ
     shows : (xs : List Attribute) → AreFew xs → IsRead kind id xs (ending_types a print) (text xs)
     shows xs f = read_signed print kind id xs a key (method_is r.request.kind).small small f
 
-    judged : (k : Kind) (xs : List Attribute) (h : Heard) → r.request.kind ≡ k → AreFew xs → success k (text xs) ≡ h → judge dealing (Some r) (written xs) ≡ response (id_of r.request) true h
-    judged k xs h e f it =
-        ap (judge dealing (Some r)) (same xs)
-        ∙ heard dealing r (text xs) (fit first missing print id xs a key r login of.id_is small f has_login works)
-        ∙ ap (response (id_of r.request) true) (ap (λ (j : Kind). success j (text xs)) e ∙ it)
+    judged : (k : Kind) (xs : List Attribute) (h : Heard) → r.request.kind ≡ k → AreFew xs → success k (text xs) ≡ h → IsSaid r h (written xs)
+    judged k xs h e f it = subst (IsSaid r h) (sym (same xs)) (record {
+      fits = fit first missing print id xs a key r login of.id_is small f has_login works;
+      says_so = ap (λ (j : Kind). success j (text xs)) e ∙ it;
+    })
 
     lasting : (k : Kind) (lifetime : ℕ) → r.request.kind ≡ k → lifetime < 2 ^ 32 → success k (text (lifetime_attribute lifetime ∷ software_attributes software)) ≡ success Refresh (text (lifetime_attribute lifetime ∷ software_attributes software))
-        → judge dealing (Some r) (written (lifetime_attribute lifetime ∷ software_attributes software)) ≡ response (id_of r.request) true (Extended lifetime)
+        → IsSaid r (Extended lifetime) (written (lifetime_attribute lifetime ∷ software_attributes software))
     lasting k lifetime e fits it =
         let xs = lifetime_attribute lifetime ∷ software_attributes software in
         let f = lasting_few lifetime software short in
         judged k xs (Extended lifetime) e f (it ∙ extended_is kind id lifetime software a print (text xs) fits (shows xs f))
 
-    by : (k : Kind) → r.request.kind ≡ k → (answer : Answer) → IsSuccess k answer → judge dealing (Some r) (answer_text software client q answer None key a) ≡ response (id_of r.request) true (says client answer)
+    by : (k : Kind) → r.request.kind ≡ k → (answer : Answer) → IsSuccess k answer → IsSaid r (says client answer) (answer_text software client q answer None key a)
     by Allocate e (allocated given lifetime missing) is =
         let relayed = is.one.address in
         let xs = opening id relayed client lifetime software in
         let f = opening_few id relayed client lifetime software is.address its short in
-        ap (judge dealing (Some r)) ((λ i. answer_text software client q (allocated (is.given_is i) lifetime (is.none_missing i)) None key a)
-        ∙ ap (λ (ys : List Attribute). written ((ys ++ (lifetime_attribute lifetime ∷ address_attribute XOR_MAPPED_ADDRESS id client ∷ [])) ++ software_attributes software)) (relayed_one id is.one is.of_family))
-        ∙ judged Allocate xs (Opened relayed client lifetime) e f (opened_is sockets kind id relayed client lifetime software a print (text xs) is.address its is.seconds (shows xs f))
-        ∙ ap (λ (g : List Given). response (id_of r.request) true (says client (allocated g lifetime missing))) (sym is.given_is)
+        subst (IsSaid r (says client (allocated given lifetime missing))) (sym ((λ i. answer_text software client q (allocated (is.given_is i) lifetime (is.none_missing i)) None key a)
+        ∙ ap (λ (ys : List Attribute). written ((ys ++ (lifetime_attribute lifetime ∷ address_attribute XOR_MAPPED_ADDRESS id client ∷ [])) ++ software_attributes software)) (relayed_one id is.one is.of_family)))
+        (subst (λ (g : List Given). IsSaid r (says client (allocated g lifetime missing)) (written xs)) (sym is.given_is)
+        (judged Allocate xs (Opened relayed client lifetime) e f (opened_is sockets kind id relayed client lifetime software a print (text xs) is.address its is.seconds (shows xs f))))
     by Allocate e (refreshed lifetime) is = absurd is
     by Allocate e done is = absurd is
     by Allocate e (refused code) is = absurd is
@@ -312,3 +317,10 @@ success_heard sockets first missing heard dealing r login software client q answ
     by (Bind channel peer) e (refreshed lifetime) is = absurd is
     by (Bind channel peer) e done is = judged (Bind channel peer) (software_attributes software) Done e (software_few software short) refl
     by (Bind channel peer) e (refused code) is = absurd is
+
+pub success_heard : AreOfEndpoints → IsFirst → IsMissing → AreHeard → (dealing : Dealing) (r : Asked) (login : Credentials) (software : Option (List ℕ)) (client : Endpoint) (q : List ℕ) (answer : Answer) (key : List ℕ) (a : IntegrityAlgorithm)
+    → IsOf r q → r.login ≡ Some login → WorksAs key a login.key → IsTransport client → IfSome software (λ name. length name ≤ 763) → IsSuccess r.request.kind answer
+    → judge dealing (Some r) (answer_text software client q answer None key a) ≡ response (id_of r.request) true (says client answer)
+success_heard sockets first missing heard dealing r login software client q answer key a of has_login works its short is =
+    let said = success_said sockets first missing r login software client q answer key a of has_login works its short is in
+    heard dealing r (answer_text software client q answer None key a) said.fits ∙ ap (response (id_of r.request) true) said.says_so

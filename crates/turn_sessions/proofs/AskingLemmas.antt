@@ -1,7 +1,8 @@
 -- What a server reads of the attributes of each request (RFC 8656, sections 7.2, 8.2, 10.2 and 12.2).
-use Rattle.std.proofs.Common.{◌≡◌, ℕ, ◌^◌, ◌<◌, Bool, true, false, List, [], ◌∷◌, ◌++◌, length, map, take, Option, None, Some, refl, ap, ◌∙◌, arith}
+use Rattle.std.proofs.Common.{◌≡◌, ℕ, suc, ◌^◌, ◌<◌, Bool, true, false, List, [], ◌∷◌, ◌++◌, length, map, take, Option, None, Some, refl, ap, ◌∙◌, arith}
 use Rattle.std.specs.Prelude.{◌||◌, ◌&&◌, ◌==◌, nat_le, not, is_some, unwrap_or, IfSome, slice_index, option_and_then, if◌then◌else◌}
-use Rattle.std.specs.List.{list_all}
+use Rattle.std.specs.List.{AllByRecursion, list_all}
+use Rattle.std.proofs.lemmas.Bool.{ne_eqb}
 use Rattle.std.specs.Option.{option_map, option_map_or, option_or, option_to_list}
 use Rattle.stun_grammar.specs.Attributes.{Attribute}
 use Rattle.stun_grammar.specs.AttributeTypes.{SOFTWARE}
@@ -19,7 +20,7 @@ use Rattle.stun_endpoints.specs.declared.endpoints.Ip.{Ip}
 use Rattle.stun_exchanges.specs.Premises.{is_reserved}
 use Rattle.turn_attrs.specs.Channels.{channel_number}
 use Rattle.turn_attrs.specs.Turn.{ADDITIONAL_ADDRESS_FAMILY, CHANNEL_NUMBER, EVEN_PORT, LIFETIME, REQUESTED_ADDRESS_FAMILY, REQUESTED_TRANSPORT, RESERVATION_TOKEN, XOR_PEER_ADDRESS, family_byte, family_number, protocol_number}
-use Rattle.turn_machine.specs.Events.{bind, permit, permit_request, refresh, unfit, unfit_allocate}
+use Rattle.turn_machine.specs.Events.{bind, permit_request, refresh, unfit, unfit_allocate}
 use Rattle.turn_peers.specs.Tunnels.{is_tunnelled}
 use Rattle.turn_requests.specs.Requests.{allocate_attributes, channel_attribute, lifetime_attribute, named_peer, software_attributes}
 use Rattle.turn_server.specs.declared.sockets.Sockets.{Sockets}
@@ -168,10 +169,26 @@ refresh_read lifetime d find few =
 
 -- ---- CreatePermission
 
-pub permit_read : AreOfEndpoints → (id : ℕ) (peer : Endpoint) (d : List ℕ) → IsTransport peer → shown_values XOR_PEER_ADDRESS (shown d) ≡ values XOR_PEER_ADDRESS (named_peer id peer ∷ []) → id_field d ≡ id → permit_of d ≡ permit (peer ∷ [])
-permit_read sockets id peer d is all id_is =
+abbrev peer_values : (id : ℕ) → List Endpoint → List (List ℕ)
+peer_values id peers = values XOR_PEER_ADDRESS (map (named_peer id) peers)
+
+not_none : (n : ℕ) → (suc n == 0) ≡ false
+not_none n = ne_eqb (suc n) 0 (λ e. absurd (omega (arith, e)))
+
+all_addresses : (id : ℕ) (peers : List Endpoint) → AllByRecursion IsTransport peers → list_all is_address (peer_values id peers) ≡ true
+all_addresses id [] all = refl
+all_addresses id (peer ∷ peers) all = (λ i. not (is_some (transport_fits id peer all.0 i)) && all_addresses id peers all.1 i)
+
+all_back : AreOfEndpoints → (id : ℕ) (peers : List Endpoint) → AllByRecursion IsTransport peers → map (peer_in id) (peer_values id peers) ≡ peers
+all_back sockets id [] all = refl
+all_back sockets id (peer ∷ peers) all = λ i. transport_in sockets id peer all.0 i ∷ all_back sockets id peers all.1 i
+
+pub permit_read : AreOfEndpoints → (id : ℕ) (peer : Endpoint) (others : List Endpoint) (d : List ℕ) → AllByRecursion IsTransport (peer ∷ others) → shown_values XOR_PEER_ADDRESS (shown d) ≡ values XOR_PEER_ADDRESS (map (named_peer id) (peer ∷ others)) → id_field d ≡ id
+    → permit_of d ≡ permit_request (peer ∷ others)
+permit_read sockets id peer others d is all id_is =
     (λ i. if not (length (all i) == 0) && list_all is_address (all i) then permit_request (map (peer_in (id_is i)) (all i)) else unfit 400)
-    ∙ (λ i. if not (is_some (transport_fits id peer is i)) && true then permit_request (transport_in sockets id peer is i ∷ []) else unfit 400)
+    ∙ (λ i. if not (not_none (length (peer_values id others)) i) && list_all is_address (peer_values id (peer ∷ others)) then permit_request (map (peer_in id) (peer_values id (peer ∷ others))) else unfit 400)
+    ∙ (λ i. if all_addresses id (peer ∷ others) is i then permit_request (all_back sockets id (peer ∷ others) is i) else unfit 400)
 
 -- ---- ChannelBind
 

@@ -8,3 +8,6 @@ mod RequestsLemmas
 mod AnswersLemmas
 mod ErrorsLemmas
 mod CrossingLemmas
+mod HearingLemmas
+mod GoingLemmas
+mod ChallengeLemmas

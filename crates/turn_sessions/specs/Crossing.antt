@@ -7,11 +7,12 @@ use Rattle.stun_endpoints.specs.declared.endpoints.FiveTuple.{FiveTuple}
 use Rattle.turn_client_machine.specs.Events.{Output, send_to, send_on}
 use Rattle.turn_client_messages.specs.Heads.{carried}
 use Rattle.turn_client_messages.specs.declared.sending.Carrier.TheVariants.{Channel, Indication}
-use Rattle.turn_machine.specs.Events.{Output as ServerOutput, to_client, to_client_on}
+use Rattle.turn_machine.specs.Events.{Output as ServerOutput, arrives, to_client, to_client_on}
 use Rattle.turn_machine.specs.Relays.{Setup, Rules}
 use Rattle.turn_allocations.specs.declared.families.Families.{Families}
 use Rattle.turn_client_machine.specs.Reach.{IsSocket, happened_since}
 use Rattle.turn_machine.specs.Runs.{Timed}
+use Rattle.turn_machine.specs.Steps.{step}
 use Rattle.turn_server.specs.Acting.{act, sends_to}
 use Rattle.turn_server.specs.Datagrams.{Moment, kept}
 use Rattle.turn_server.specs.Delivering.{message_by}
@@ -56,3 +57,13 @@ pub record IsCarriedOn (setup : Setup) (rules : Rules) (there : List Moment) (si
   pub socket : IsSocket tuple user number relayed (happened_since setup since earlier)
   pub acts : act site setup rules tuple numbers (kept setup there) now d
       ≡ sends_to number peer false bytes
+
+-- what a server does, at a moment after these, with data of a peer that comes to its socket of this number
+abbrev pub brought_by : Setup → Rules → List Moment → (number now : ℕ) → Endpoint → List ℕ → ServerOutput
+brought_by setup rules there number now peer bytes =
+    (step setup rules (kept setup there).state now (arrives number peer bytes)).output
+
+-- d is what it writes for it, over this transport
+pub record IsBrought (protocol : ℕ) (output : ServerOutput) (d : List ℕ) : Type 0 where
+  pub gives : Gives output d
+  pub to : IsTo protocol output

@@ -1,5 +1,6 @@
 -- A client and its server, as the laws need them: what both have to agree on.
-use Rattle.std.specs.Prelude.{◌≡◌, ℕ, ◌^◌, ◌<◌, ◌≤◌, Bool, true, false, List, length, Some, IfSome, ◌==◌}
+use Rattle.std.specs.Prelude.{◌≡◌, ℕ, ◌^◌, ◌<◌, ◌≤◌, Bool, true, false, List, ◌∷◌, length, Some, IfSome, ◌==◌}
+use Rattle.std.specs.List.{AllByRecursion}
 use Rattle.stun_grammar.specs.Writing.{greatest_length}
 use Rattle.stun_base.specs.declared.transport.TransportType.{TransportType}
 use Rattle.stun_base.specs.declared.transport.TransportType.TheVariants.{Udp, Tcp}
@@ -30,13 +31,13 @@ pub record IsChannel (channel : ℕ) : Type 0 where
   pub least : 0x4000 ≤ channel
   pub most : channel ≤ 0x4FFF
 
--- what a request names
-abbrev pub IsNamed : Kind → Type 0
-IsNamed Allocate = Unit {0}
-IsNamed Refresh = Unit {0}
-IsNamed Delete = Unit {0}
-IsNamed (Permit peer) = IsTransport peer
-IsNamed (Bind channel peer) = IsChannel channel × IsTransport peer
+-- what a request names, with these further peers
+abbrev pub IsNamed : (others : List Endpoint) → Kind → Type 0
+IsNamed others Allocate = Unit {0}
+IsNamed others Refresh = Unit {0}
+IsNamed others Delete = Unit {0}
+IsNamed others (Permit peer) = AllByRecursion IsTransport (peer ∷ others)
+IsNamed others (Bind channel peer) = IsChannel channel × IsTransport peer
 
 -- and what all requests of a client have: lifetimes have 32 bits, and a SOFTWARE at most 763 bytes (RFC
 -- 8489, section 14.14)

@@ -5,5 +5,6 @@
 mod laws;
 
 pub use laws::{
-    channel_data_is_read, data_crosses, data_is_read, requests_are_read, responses_are_judged,
+    challenge_is_heard, channel_data_is_read, data_crosses, data_is_read, fit_is_heard, goes_on,
+    requests_are_read, responses_are_judged,
 };

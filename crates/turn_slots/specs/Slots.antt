@@ -1,5 +1,6 @@
 -- The slots of a TURN server's relayed addresses: one or two of each allocation (RFC 8656, section 6).
-use Rattle.std.specs.Prelude.{◌≡◌, ℕ, ◌+◌, ◌<◌, ◌⊎◌, Bool, true, false, List, Option, None, Some, length, slice_index_or, slice_set}
+use Rattle.std.specs.Prelude.{◌≡◌, ℕ, ◌+◌, ◌<◌, ◌⊎◌, Bool, true, false, List, Option, None, Some, IfSome, IfNone, length, slice_index_or, slice_set}
+use Rattle.turn_slots.specs.Relays.{RelayKey, is_relay}
 use Rattle.turn_slots.specs.Users.{UserId, is_user}
 use Rattle.turn_slots.specs.Numbers.{rounds}
 use Rattle.turn_slots.specs.declared.hashing.Secret.{Secret}
@@ -21,6 +22,13 @@ Holds state slot e = at_slot state slot ≡ Some e
 -- this is so of each relayed address
 abbrev pub Each : State → (Entry → Type 0) → Type 0
 Each state P = (slot : ℕ) (e : Entry) → Holds state slot e → P e
+
+-- the slot of the relayed address with a key, or none if no relayed address has it
+pub record IsSlotOf (state : State) (key : RelayKey) (found : Option ℕ) : Type 0 where
+  pub some : IfSome found (λ slot. (e : Entry) × Holds state slot e × (is_relay key e.key ≡ true))
+  pub none : IfNone found (Each state (λ e. is_relay key e.key ≡ false))
+  pub only : (slot : ℕ) (e : Entry) → Holds state slot e → is_relay key e.key ≡ true
+      → found ≡ Some slot
 
 -- no slot is free
 abbrev pub IsFull : State → Type 0

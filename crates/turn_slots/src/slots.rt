@@ -8,7 +8,7 @@ ghost use Rattle.turn_slots.specs.Iterating.{taken_from, taken_left};
 ghost use Rattle.turn_slots.specs.Keys.{IsFullOf};
 ghost use Rattle.turn_slots.specs.Numbers.{number_at};
 ghost use Rattle.turn_slots.specs.Users.{is_user};
-ghost use Rattle.turn_slots.specs.Slots.{at_slot, Holds, Each, IsClosed, is_live, is_users, Opens, without, Ends};
+ghost use Rattle.turn_slots.specs.Slots.{at_slot, Holds, Each, IsSlotOf, IsClosed, is_live, is_users, Opens, without, Ends};
 ghost use Rattle.turn_slots.specs.Tables.{IsPlaceOf};
 
 use crate::deadlines::{Deadlines, NEVER};
@@ -19,6 +19,7 @@ use crate::relay_key::RelayKey;
 use crate::users::UserId;
 use std::alloc::{AllocError, Global};
 use std::marker::Model;
+use stun_endpoints::FiveTuple;
 
 /// A number modulo this is its slot.
 const PLACES: u64 = 16_777_216;
@@ -210,6 +211,32 @@ impl Slots {
             → is_relay key.now e.key ≡ true → result ≡ Some slot }
     {
         self.keys.find(key)
+    }
+
+    /// Returns the slots of the client's relayed addresses for IPv4 and IPv6, each as [`Slots::find_by_key`]
+    /// returns it, with one hash for both.
+    ///
+    /// ```
+    /// use turn_slots::{RelayKey, Slots, UserId};
+    ///
+    /// let mut slots = Slots::new(alloc, 4, [1, 2])?;
+    /// let ipv6 = RelayKey { family: 2, ..RelayKey::default() };
+    /// let slot = slots.open(ipv6, UserId::default(), 600);
+    /// assert_eq!(rt; slots.find_by_client(&ipv6.tuple), (None, slot));
+    /// ```
+    pub fn find_by_client(&self, tuple: &FiveTuple) -> (Option<usize>, Option<usize>)
+        ensures ipv4 { IsSlotOf self.now (record { tuple = tuple.now; family = 1 }) result.0 }
+        ensures ipv6 { IsSlotOf self.now (record { tuple = tuple.now; family = 2 }) result.1 }
+    {
+        let ipv4 = RelayKey {
+            tuple: *tuple,
+            family: 1,
+        };
+        let ipv6 = RelayKey {
+            tuple: *tuple,
+            family: 2,
+        };
+        self.keys.find_both(&ipv4, &ipv6)
     }
 
     /// Returns the slot of the relayed address with a number, or `None` if no relayed address has it.

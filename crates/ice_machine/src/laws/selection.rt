@@ -1,14 +1,14 @@
 //! Roles, nomination, and the selected pair.
 
-ghost use Rattle.std.specs.Prelude.{◌≡◌, ◌≤◌, ◌<◌, ◌+◌, ℕ, List, Some};
+ghost use Rattle.std.specs.Prelude.{◌≡◌, ◌≤◌, ◌<◌, ◌+◌, ℕ, List, Some, false};
 ghost use Rattle.ice_machine.specs.Agents.{Setup, State, Pair, seconds};
 ghost use Rattle.ice_machine.specs.Pairs.{selected};
 ghost use Rattle.ice_machine.specs.Runs.{Begin, Timed, run, history};
 ghost use Rattle.ice_machine.specs.Roles.{other_role, Controlling};
 ghost use Rattle.ice_machine.specs.Meetings.{End, IsFit, delay};
-ghost use Rattle.ice_machine.specs.Lasting.{Watch, IsCourse, IsTimely, watched, HasUnnamed, HasNamed};
-ghost use Rattle.ice_machine.specs.Events.{Check, Answer, checks};
-ghost use Rattle.ice_machine.specs.Steps.{step};
+ghost use Rattle.ice_machine.specs.Lasting.{Watch, IsCourse, IsTimely, watched, HasUnnamed, HasNamed, IsNaming, IsBestValid};
+ghost use Rattle.ice_machine.specs.Events.{Check, Answer, checks, polls};
+ghost use Rattle.ice_machine.specs.Steps.{at, step};
 ghost use Rattle.ice_machine.specs.Exchanges.{Side, checked_by, answered_with, IsExchange, IsCrossing, IsSteady};
 ghost use Rattle.ice_machine.specs.Bounds.{AreDistinct, AreSingle};
 ghost use Rattle.ice_machine.specs.Warrants.{IsSelected};
@@ -42,11 +42,16 @@ pub fn roles_settle()
 
 /// A controlling agent nominates: once a pair is valid and no pair of its component is nominated, it sends a
 /// nominating request on a pair of the component, at most a gap after `patience` is over, whatever else
-/// arrives.
+/// arrives. The pair that it picks so has the greatest priority of the component's valid pairs at that moment,
+/// unless the request is a triggered check (RFC 8445, section 8.1.1).
 pub fn nominations_follow()
-    ensures { (setup : Setup) (e : End) (gap delay since limit : ℕ) (s : State) (w : Watch)
+    ensures follows { (setup : Setup) (e : End) (gap delay since limit : ℕ) (s : State) (w : Watch)
         (events : List Timed) (now : ℕ) → IsFit setup → since + setup.patience ≤ limit
         → gap + delay ≤ seconds 20 → AreDistinct s.pairs → HasUnnamed e gap since limit w s
         → IsCourse setup e gap delay s w events → IsTimely gap delay now (watched setup e s w events)
         → limit + gap < now → HasNamed setup e s events }
+    ensures best { (setup : Setup) (s : State) (e : End) (now fresh : ℕ) → AreDistinct s.pairs
+        → (n : IsNaming setup e fresh (at setup now s) (step setup s now fresh polls).output)
+        → n.pair.chosen ≡ false → n.pair.triggered ≡ false
+        → IsBestValid (at setup now s) n.pair }
 {}

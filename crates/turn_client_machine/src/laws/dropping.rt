@@ -42,9 +42,9 @@ pub fn peers_are_dropped()
 /// go to another peer 5 minutes later). A peer keeps its number until the user drops it.
 pub fn numbers_rest()
     ensures requests { (setup : Setup) (earlier : List Timed) (next : Timed) (request : Request)
-        (number : ℕ) (peer other : Endpoint) → let h = happening setup (run setup earlier) next in
+        (others : List Endpoint) (number : ℕ) (peer other : Endpoint) → let h = happening setup (run setup earlier) next in
         Happened (Asked number peer h.moment) (history setup earlier)
-        → h.output ≡ asks request → request.kind ≡ Bind number other → other ≡ peer }
+        → h.output ≡ asks request others → request.kind ≡ Bind number other → other ≡ peer }
     ensures data { (setup : Setup) (earlier : List Timed) (next : Timed) (number : ℕ)
         (peer from other : Endpoint) (bytes : List ℕ)
         → let h = happening setup (run setup earlier) next in

@@ -1,8 +1,8 @@
 //! What polls send, and when.
 
-ghost use Rattle.std.specs.Prelude.{◌≡◌, ◌<◌, ◌≤◌, ◌⊎◌, ◌+◌, ℕ, Bool, true, false, find, Some};
+ghost use Rattle.std.specs.Prelude.{◌≡◌, ◌<◌, ◌≤◌, ◌⊎◌, ◌+◌, ℕ, Bool, true, false, find, Some, []};
 ghost use Rattle.turn_client_machine.specs.Clients.{Setup, State, is_allocated, Endpoint, is_active, Peer, Pending, End, Asking, Allocated, Closing, Ended, Allocate, Refresh, Delete};
-ghost use Rattle.turn_client_machine.specs.Steps.{at, step, counted, is_under_way, is_free, is_next, kind_of};
+ghost use Rattle.turn_client_machine.specs.Steps.{at, step, counted, is_single, is_free, is_next, kind_of, others_at, takes_along};
 ghost use Rattle.turn_client_machine.specs.Events.{responds, polls, asks, Opened, Extended, Done, Refused, Challenged};
 ghost use Rattle.turn_client_machine.specs.Strangers.{is_unknown};
 ghost use Rattle.turn_client_machine.specs.Lasting.{IsInTime};
@@ -12,13 +12,14 @@ ghost use Rattle.turn_client_machine.specs.Tasks.{awaits, is_due, is_expired, ma
 ghost use Rattle.turn_client_machine.specs.Responses.{awaits_of};
 ghost use Rattle.turn_client_machine.specs.Renewing.{IsTurn, IsDeleting, Rests, IsGood, new_request, is_renewed, is_turn};
 
-/// Each poll leaves fewer tasks due, unless none was, or requests for nine peers are under way. A
+/// Each poll leaves fewer tasks due, unless none was, or requests for eight single peers are under
+/// way. A
 /// client that is polled until nothing is due is in time for as long as the next poll may come
 /// late.
 pub fn polls_come_to_an_end()
     ensures fewer { (setup : Setup) (state : State) (now fresh : ℕ)
         → (dues (step setup state now fresh polls).state < dues (at now state))
-        ⊎ ((dues (at now state) ≡ 0) ⊎ (9 ≤ counted is_under_way state.peers)) }
+        ⊎ ((dues (at now state) ≡ 0) ⊎ (8 ≤ counted is_single state.peers)) }
     ensures in_time { (state : State) (late later : ℕ) → is_allocated state.phase ≡ true
         → dues state ≡ 0 → later ≤ state.clock + late → IsInTime late (at later state) }
 {}
@@ -31,14 +32,14 @@ pub fn turns_are_used()
         (relayed mapped : Endpoint) → 0 < setup.most_sends → state.phase ≡ Asking
         → IsTurn (at now state).clock state.task → 80 ≤ lifetime → relayed.ip.family ≡ setup.family
         → ((step setup state now fresh polls).output
-        ≡ asks (new_request (at now state) fresh Allocate))
+        ≡ asks (new_request (at now state) fresh Allocate) [])
         × IsGood (at now state).clock lifetime (step setup (step setup state now fresh polls).state
         later other (responds setup.server fresh true (Opened relayed mapped lifetime))).state }
     ensures refresh { (setup : Setup) (state : State) (now fresh later other lifetime : ℕ)
         → 0 < setup.most_sends → state.phase ≡ Allocated
         → IsTurn (at now state).clock state.task → 80 ≤ lifetime
         → ((step setup state now fresh polls).output
-        ≡ asks (new_request (at now state) fresh Refresh))
+        ≡ asks (new_request (at now state) fresh Refresh) [])
         × IsGood (at now state).clock lifetime (step setup (step setup state now fresh polls).state
         later other (responds setup.server fresh true (Extended lifetime))).state }
     ensures peer { (setup : Setup) (state : State) (now fresh later other : ℕ) (p : Peer)
@@ -47,7 +48,9 @@ pub fn turns_are_used()
         → find (is_next (is_free state.peers) (at now state).clock) state.peers ≡ Some p
         → IsTurn (at now state).clock p.task → is_unknown fresh state ≡ true
         → ((step setup state now fresh polls).output
-        ≡ asks (new_request (at now state) fresh (kind_of p)))
+        ≡ asks (new_request (at now state) fresh (kind_of p)) (others_at setup fresh
+        (is_free state.peers) (takes_along setup (at now state).clock state.peers p)
+        (at now state)))
         × (list_any (is_renewed (at now state).clock p.wants p.address)
         (step setup (step setup state now fresh polls).state later other
         (responds setup.server fresh true Done)).state.peers ≡ true) }
@@ -88,7 +91,7 @@ pub fn useless_is_deleted()
         (why : End) → 0 < setup.most_sends → state.phase ≡ Closing why
         → IsTurn (at now state).clock state.task
         → ((step setup state now fresh polls).output
-        ≡ asks (new_request (at now state) fresh Delete))
+        ≡ asks (new_request (at now state) fresh Delete) [])
         × (((step setup (step setup state now fresh polls).state later other
         (responds setup.server fresh true (Extended lifetime))).state.phase ≡ Ended why)
         × ((step setup (step setup state now fresh polls).state later other

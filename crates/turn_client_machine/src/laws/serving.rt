@@ -86,21 +86,22 @@ pub fn fit_is_heard()
         → IsHeard mapped tuple
         (Opened offer.address mapped (granted_for wanted server.greatest_lifetime))
         (s_step server rules state now
-        (s_asks tuple user (request_of wanted id want Allocate))).output }
+        (s_asks tuple user (request_of wanted id want [] Allocate))).output }
     ensures refreshed { (server : ServerSetup) (rules : Rules) (state : ServerState) (now : ℕ)
         (tuple : FiveTuple) (user id : ℕ) (wanted : Option ℕ) (want : Want) (mapped : Endpoint)
         → IsOwn tuple user (s_at now state)
         → IsHeard mapped tuple (Extended (refreshed_for wanted server.greatest_lifetime))
         (s_step server rules state now
-        (s_asks tuple user (request_of wanted id want Refresh))).output }
+        (s_asks tuple user (request_of wanted id want [] Refresh))).output }
     ensures permitted { (server : ServerSetup) (rules : Rules) (state : ServerState) (now : ℕ)
         (tuple : FiveTuple) (user id : ℕ) (wanted : Option ℕ) (want : Want) (peer mapped : Endpoint)
-        → CanPermit server rules tuple user (peer ∷ []) (s_at now state)
+        (others : List Endpoint)
+        → CanPermit server rules tuple user (peer ∷ others) (s_at now state)
         → IsHeard mapped tuple Done (s_step server rules state now
-        (s_asks tuple user (request_of wanted id want (Permit peer)))).output }
+        (s_asks tuple user (request_of wanted id want others (Permit peer)))).output }
     ensures bound { (server : ServerSetup) (rules : Rules) (state : ServerState) (now : ℕ)
         (tuple : FiveTuple) (user id number : ℕ) (wanted : Option ℕ) (want : Want)
         (peer mapped : Endpoint) → CanBind server rules tuple user number peer (s_at now state)
         → IsHeard mapped tuple Done (s_step server rules state now
-        (s_asks tuple user (request_of wanted id want (Bind number peer)))).output }
+        (s_asks tuple user (request_of wanted id want [] (Bind number peer)))).output }
 {}

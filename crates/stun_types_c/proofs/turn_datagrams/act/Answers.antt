@@ -16,5 +16,5 @@ returns c =
       action = c.in-Ok.action;
       acts = c.in-Ok.ensures.acts;
       same = c.take_datagram.ensures.same;
-      in_c = subst (λ (numbers : List ℕ). IsInC c.in-Ok.action (length numbers) c.in_c.result.0 c.in_c.result.1) c.ended.ensures c.in_c.ensures;
+      in_c = subst (λ (numbers : List ℕ). IsInC c.in-Ok.action (length numbers) c.put_action.result c.put_action.new.out) c.ended-ended.ensures c.put_action.ensures;
     })

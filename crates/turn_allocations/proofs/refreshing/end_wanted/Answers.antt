@@ -2,7 +2,6 @@ use Rattle.std.proofs.Common.{◌≡◌, ◌++◌, [], ◌∷◌, Option, ap, �
 use Rattle.std.specs.Prelude.{MatchOption}
 use Rattle.turn_allocations.specs.declared.client.Place.{Place}
 use Rattle.turn_allocations.specs.Clients.{in_place}
-use Rattle.turn_allocations.specs.Ending.{Numbers}
 use Rattle.turn_allocations.specs.Refreshing.{ended_in}
 use Rattle.turn_allocations.proofs.RefreshingLemmas.{wanted_end}
 use Rattle.turn_allocations.proofs.refreshing.end_wanted.Goals as goal

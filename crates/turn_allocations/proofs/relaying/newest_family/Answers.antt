@@ -8,17 +8,17 @@ use Rattle.turn_allocations.proofs.relaying.newest_family.Goals as goal
 
 pub returns-in-Some : goal.returns-in-Some
 returns-in-Some c = λ t tuple owns.
-    let places = c.newest_first-first.result in
-    let newest = c.newest_first-first.ensures t tuple owns in
-    let second = option_and_then (live_family c.args.now) (in_place t places.1) in
-    sym (newest_live c.args.now tuple t places.0 places.1 newest
-    ∙ ap (λ (o : Option ℕ). option_or o second) (sym (c.in-Some.ensures t (in_place t places.0) newest.first)))
+    let places = c.newest_first.result in
+    let newest = c.newest_first.ensures t tuple owns in
+    let second = option_and_then (live_family c.args.now) (in_place t places.1.now) in
+    sym (newest_live c.args.now tuple t places.0.now places.1.now newest
+    ∙ ap (λ (o : Option ℕ). option_or o second) (sym (c.in-Some.ensures t (in_place t places.0.now) newest.first)))
 
 pub returns-in-None : goal.returns-in-None
 returns-in-None c = λ t tuple owns.
-    let places = c.newest_first-first.result in
-    let newest = c.newest_first-first.ensures t tuple owns in
-    let second = option_and_then (live_family c.args.now) (in_place t places.1) in
-    sym (newest_live c.args.now tuple t places.0 places.1 newest
-    ∙ (ap (λ (o : Option ℕ). option_or o second) (sym (c.in-None.ensures t (in_place t places.0) newest.first))
-    ∙ sym (c.live_family-in-None.ensures t (in_place t places.1) newest.second)))
+    let places = c.newest_first.result in
+    let newest = c.newest_first.ensures t tuple owns in
+    let second = option_and_then (live_family c.args.now) (in_place t places.1.now) in
+    sym (newest_live c.args.now tuple t places.0.now places.1.now newest
+    ∙ (ap (λ (o : Option ℕ). option_or o second) (sym (c.in-None.ensures t (in_place t places.0.now) newest.first))
+    ∙ sym (c.live_family-in-None.ensures t (in_place t places.1.now) newest.second)))

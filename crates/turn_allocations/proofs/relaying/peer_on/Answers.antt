@@ -10,18 +10,18 @@ use Rattle.turn_allocations.proofs.relaying.peer_on.Goals as goal
 pub returns-in-Some : goal.returns-in-Some
 returns-in-Some g c = λ tuple owns.
     let t = c.args.relays.now in
-    let places = c.newest_first-first.result in
-    let newest = c.newest_first-first.ensures t tuple owns in
-    let second = option_and_then (peer_by t.clock c.args.channel) (in_place t places.1) in
-    sym (newest_peer t.clock c.args.channel tuple t places.0 places.1 newest
-    ∙ ap (λ (o : Option (ℕ × Endpoint)). option_or o second) (sym (c.in-Some.ensures (in_place t places.0) newest.first)))
+    let places = c.newest_first.result in
+    let newest = c.newest_first.ensures t tuple owns in
+    let second = option_and_then (peer_by t.clock c.args.channel) (in_place t places.1.now) in
+    sym (newest_peer t.clock c.args.channel tuple t places.0.now places.1.now newest
+    ∙ ap (λ (o : Option (ℕ × Endpoint)). option_or o second) (sym (c.in-Some.ensures (in_place t places.0.now) newest.first)))
 
 pub returns-in-None : goal.returns-in-None
 returns-in-None g c = λ tuple owns.
     let t = c.args.relays.now in
-    let places = c.newest_first-first.result in
-    let newest = c.newest_first-first.ensures t tuple owns in
-    let second = option_and_then (peer_by t.clock c.args.channel) (in_place t places.1) in
-    sym (newest_peer t.clock c.args.channel tuple t places.0 places.1 newest
-    ∙ (ap (λ (o : Option (ℕ × Endpoint)). option_or o second) (sym (c.in-None.ensures (in_place t places.0) newest.first))
-    ∙ sym (c.peer_in-in-None.ensures (in_place t places.1) newest.second)))
+    let places = c.newest_first.result in
+    let newest = c.newest_first.ensures t tuple owns in
+    let second = option_and_then (peer_by t.clock c.args.channel) (in_place t places.1.now) in
+    sym (newest_peer t.clock c.args.channel tuple t places.0.now places.1.now newest
+    ∙ (ap (λ (o : Option (ℕ × Endpoint)). option_or o second) (sym (c.in-None.ensures (in_place t places.0.now) newest.first))
+    ∙ sym (c.peer_in-in-None.ensures (in_place t places.1.now) newest.second)))

@@ -1,5 +1,4 @@
-use Rattle.std.proofs.Common.{◌≡◌, ◌++◌, [], ◌∷◌, ℕ, sym, ap, ◌∙◌, subst}
-use Rattle.turn_allocations.specs.Ending.{Numbers}
+use Rattle.std.proofs.Common.{◌++◌, [], ◌∷◌, ℕ, sym, ap, ◌∙◌}
 use Rattle.turn_allocations.proofs.SweepingLemmas.{from_end, has_place, room_kept, sound_ended}
 use Rattle.turn_allocations.proofs.sweeping.end_at.Goals as goal
 

@@ -1,13 +1,11 @@
 use Rattle.std.proofs.Common.{◌≡◌, ◌+◌, ◌<◌, ◌≤◌, ◌++◌, [], ◌∷◌, ℕ, not, length, refl, sym, ap, ◌∙◌, subst, arith}
 use Rattle.std.proofs.lemmas.Bool.{not_from_false, not_from_true, false_from_ne_true, ltb-true, lt-ltb}
-use Rattle.std.specs.Prelude.{nat_lt}
 use Rattle.turn_machine.specs.Relays.{Relay, is_live}
 use Rattle.turn_machine.specs.Times.{at}
 use Rattle.turn_relays.specs.Relayed.{Table, state_of}
 use Rattle.turn_relays.specs.Following.{listed}
 use Rattle.turn_allocations.specs.Clients.{Becomes}
-use Rattle.turn_allocations.specs.Ending.{Numbers}
-use Rattle.turn_allocations.proofs.SweepingLemmas.{Ending, ending_begins, ending_goes_on, ending_ends, expired_left, has_place, fewer}
+use Rattle.turn_allocations.proofs.SweepingLemmas.{ending_begins, ending_goes_on, ending_ends, expired_left, has_place, fewer}
 use Rattle.turn_allocations.proofs.sweeping.end_expired.Goals as goal
 
 pub expired-init : goal.expired-init

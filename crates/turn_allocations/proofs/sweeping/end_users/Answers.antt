@@ -1,10 +1,9 @@
-use Rattle.std.proofs.Common.{◌≡◌, ◌++◌, [], ◌∷◌, ℕ, length, sym, ap, ◌∙◌, subst, arith, Option}
+use Rattle.std.proofs.Common.{◌≡◌, ◌++◌, [], ◌∷◌, length, ap, subst, arith, Option}
 use Rattle.std.specs.Prelude.{MatchOption}
 use Rattle.turn_slots.specs.Users.{user_number}
 use Rattle.turn_machine.specs.Relays.{Relay, is_users}
 use Rattle.turn_relays.specs.Relayed.{Table}
 use Rattle.turn_relays.specs.Following.{listed}
-use Rattle.turn_allocations.specs.Ending.{Numbers}
 use Rattle.turn_allocations.proofs.SweepingLemmas.{ending_begins, ending_goes_on, ending_ends, fewer}
 use Rattle.turn_allocations.proofs.sweeping.end_users.Goals as goal
 

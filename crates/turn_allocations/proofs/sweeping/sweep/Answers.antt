@@ -1,7 +1,6 @@
-use Rattle.std.proofs.Common.{◌≡◌, ℕ, ◌+◌, ◌≤◌, [], length, max, sym, ap, ◌∙◌, subst, arith}
-use Rattle.turn_relays.specs.Relayed.{Table, state_of}
-use Rattle.turn_relays.specs.Following.{listed}
-use Rattle.turn_machine.specs.Times.{at, over_at}
+use Rattle.std.proofs.Common.{max, subst, arith}
+use Rattle.turn_relays.specs.Relayed.{state_of}
+use Rattle.turn_machine.specs.Times.{over_at}
 use Rattle.turn_allocations.specs.Ending.{Numbers}
 use Rattle.turn_allocations.specs.Serving.{Appends}
 use Rattle.turn_allocations.proofs.SweepingLemmas.{sound_later, swept_over, swept_sound, room_begins}

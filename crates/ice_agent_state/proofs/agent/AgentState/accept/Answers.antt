@@ -8,6 +8,7 @@ use Rattle.ice_machine.specs.Bounds.{AreDistinct}
 use Rattle.ice_agent_state.specs.Agents.{Held, setup_of}
 use Rattle.ice_agent_state.specs.Tried.{IsTried}
 use Rattle.ice_agent_state.specs.Quiet.{IsSteady}
+use Rattle.ice_agent_state.proofs.HeldLemmas.{spelled}
 use Rattle.ice_agent_state.proofs.QuietLemmas.{new_steady, heard_steady}
 use Rattle.ice_agent_state.proofs.ListsLemmas.{take_written}
 use Rattle.ice_agent_state.proofs.AskedLemmas.{changed_length}
@@ -52,21 +53,7 @@ hear_on-self-inside-requires c = subst AreDistinct (sym c.deref_mut.ensures.valu
 
 pub returns-clause-state : goal.returns-clause-state
 returns-clause-state c =
-    let held : Held = record {
-      setup = setup_of c.self.inside.settings;
-      state = record {
-        clock = c.self.inside.clock;
-        role = c.self.inside.role;
-        tiebreaker = c.self.inside.tiebreaker;
-        ready = c.self.inside.ready;
-        ended = c.self.inside.ended;
-        bases = c.self.inside.bases.items;
-        remotes = c.self.inside.remotes.items;
-        pairs = c.self.inside.pairs.items;
-        requests = c.self.inside.requests.items;
-        next_request_at = c.self.inside.next_request_at;
-      };
-    } in
+    let held = spelled c.self.view_is in
     let room = c.self.inside.settings.most_pairs in
     let items = c.self.inside.pairs.items in
     let vec = c.add_pair.new.pairs in

@@ -6,10 +6,11 @@ use Rattle.ice_machine.specs.Agents.{seconds, is_at}
 use Rattle.ice_machine.specs.Checks.{asked, request_on, most_urgent}
 use Rattle.ice_machine.specs.Steps.{changed_first, asks_on}
 use Rattle.ice_machine.specs.Bounds.{AreDistinct}
-use Rattle.ice_agent_state.specs.Agents.{Held, setup_of, IsSettled}
+use Rattle.ice_agent_state.specs.Agents.{Held, IsSettled}
 use Rattle.ice_agent_state.specs.Tried.{IsTried}
 use Rattle.ice_agent_state.specs.Waking.{HoldsFrom, ends_by}
 use Rattle.ice_agent_state.specs.Quiet.{IsSteady, StaysAwaited, capped}
+use Rattle.ice_agent_state.proofs.HeldLemmas.{spelled}
 use Rattle.ice_agent_state.proofs.ListsLemmas.{take_written, take_few}
 use Rattle.ice_agent_state.proofs.AskedLemmas.{AskFacts, ask_changes, changed_length, each_replaced}
 use Rattle.ice_agent_state.proofs.QuietLemmas.{steady_one, all_steady_sooner, steady_sooner, awaited_by, all_awaited_sooner, each_taken}
@@ -18,21 +19,7 @@ use Rattle.ice_agent_state.proofs.agent.AgentState.ask.Goals as goal
 pub asked-asked-requires : goal.asked-asked-requires
 asked-asked-requires c =
     let most = max 1 c.self.inside.settings.most_tries in
-    let held : Held = record {
-      setup = setup_of c.self.inside.settings;
-      state = record {
-        clock = c.self.inside.clock;
-        role = c.self.inside.role;
-        tiebreaker = c.self.inside.tiebreaker;
-        ready = c.self.inside.ready;
-        ended = c.self.inside.ended;
-        bases = c.self.inside.bases.items;
-        remotes = c.self.inside.remotes.items;
-        pairs = c.self.inside.pairs.items;
-        requests = c.self.inside.requests.items;
-        next_request_at = c.self.inside.next_request_at;
-      };
-    } in
+    let held = spelled c.self.view_is in
     let settled_by : IsSettled held = subst IsSettled (sym c.self.view_is) c.requires.settled in
     let urgent : most_urgent held.setup held.state ≡ Some c.args.pair = subst (λ (z : Held). most_urgent z.setup z.state ≡ Some c.args.pair) (sym c.self.view_is) c.requires.urgent in
     let facts : AskFacts held most c.args.id c.args.pair = ask_changes held most c.args.id c.args.pair settled_by c.self.invariant.distinct c.self.invariant.tried (omega arith) (omega arith) urgent in
@@ -43,21 +30,7 @@ asked-asked-requires c =
 pub invariant_of-self : goal.invariant_of-self
 invariant_of-self c =
     let most = max 1 c.self.inside.settings.most_tries in
-    let held : Held = record {
-      setup = setup_of c.self.inside.settings;
-      state = record {
-        clock = c.self.inside.clock;
-        role = c.self.inside.role;
-        tiebreaker = c.self.inside.tiebreaker;
-        ready = c.self.inside.ready;
-        ended = c.self.inside.ended;
-        bases = c.self.inside.bases.items;
-        remotes = c.self.inside.remotes.items;
-        pairs = c.self.inside.pairs.items;
-        requests = c.self.inside.requests.items;
-        next_request_at = c.self.inside.next_request_at;
-      };
-    } in
+    let held = spelled c.self.view_is in
     let settled_by : IsSettled held = subst IsSettled (sym c.self.view_is) c.requires.settled in
     let urgent : most_urgent held.setup held.state ≡ Some c.args.pair = subst (λ (z : Held). most_urgent z.setup z.state ≡ Some c.args.pair) (sym c.self.view_is) c.requires.urgent in
     let facts : AskFacts held most c.args.id c.args.pair = ask_changes held most c.args.id c.args.pair settled_by c.self.invariant.distinct c.self.invariant.tried (omega arith) (omega arith) urgent in
@@ -102,21 +75,7 @@ invariant_of-self c =
 pub returns-clause-state : goal.returns-clause-state
 returns-clause-state c =
     let most = max 1 c.self.inside.settings.most_tries in
-    let held : Held = record {
-      setup = setup_of c.self.inside.settings;
-      state = record {
-        clock = c.self.inside.clock;
-        role = c.self.inside.role;
-        tiebreaker = c.self.inside.tiebreaker;
-        ready = c.self.inside.ready;
-        ended = c.self.inside.ended;
-        bases = c.self.inside.bases.items;
-        remotes = c.self.inside.remotes.items;
-        pairs = c.self.inside.pairs.items;
-        requests = c.self.inside.requests.items;
-        next_request_at = c.self.inside.next_request_at;
-      };
-    } in
+    let held = spelled c.self.view_is in
     let settled_by : IsSettled held = subst IsSettled (sym c.self.view_is) c.requires.settled in
     let urgent : most_urgent held.setup held.state ≡ Some c.args.pair = subst (λ (z : Held). most_urgent z.setup z.state ≡ Some c.args.pair) (sym c.self.view_is) c.requires.urgent in
     let facts : AskFacts held most c.args.id c.args.pair = ask_changes held most c.args.id c.args.pair settled_by c.self.invariant.distinct c.self.invariant.tried (omega arith) (omega arith) urgent in

@@ -1,11 +1,10 @@
-use Rattle.std.proofs.Common.{◌≡◌, ℕ, true, List, [], length, refl, sym, ap, ◌∙◌, subst}
+use Rattle.std.proofs.Common.{◌≡◌, true, List, [], length, sym, ap, ◌∙◌, subst}
 use Rattle.std.specs.List.{AllByRecursion}
 use Rattle.std.proofs.lemmas.List.{length-replicate}
-use Rattle.turn_machine.specs.Relays.{Relay, State}
+use Rattle.turn_machine.specs.Relays.{Relay}
 use Rattle.turn_relays.specs.Relayed.{Table, state_of}
 use Rattle.turn_allocations.specs.Clients.{is_sound, AreSound}
 use Rattle.turn_allocations.specs.Ending.{Numbers}
-use Rattle.turn_allocations.specs.Tables.{Serving}
 use Rattle.turn_allocations.proofs.SteppingLemmas.{none_listed}
 use Rattle.turn_allocations.proofs.allocations.Allocations.new.Goals as goal
 

@@ -1,7 +1,5 @@
-use Rattle.std.proofs.Common.{◌≡◌, ℕ, ◌∙◌, ap, sym, Option, ne_eqb, List, find}
-use Rattle.std.specs.Prelude.{is_some}
-use Rattle.stun_endpoints.specs.declared.endpoints.FiveTuple.{FiveTuple}
-use Rattle.turn_machine.specs.Relays.{Relay, is_for}
+use Rattle.std.proofs.Common.{ℕ, ◌∙◌, ap, sym, ne_eqb, find}
+use Rattle.turn_machine.specs.Relays.{is_for}
 use Rattle.turn_machine.specs.Opening.{has_of}
 use Rattle.turn_relays.specs.Relayed.{state_of}
 use Rattle.turn_allocations.proofs.ClientLemmas.{find_first, find_second, find_third, has_first, has_second, has_third, none_for}

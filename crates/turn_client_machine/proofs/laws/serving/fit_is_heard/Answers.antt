@@ -27,8 +27,8 @@ returns-clause-refreshed c = λ server rules state now tuple user id wanted want
 }
 
 pub returns-clause-permitted : goal.returns-clause-permitted
-returns-clause-permitted c = λ server rules state now tuple user id wanted want peer mapped can.
-    record { given = s_done; answered = (permit_granted server rules (s_at now state) tuple user (peer ∷ []) can).output; heard = refl }
+returns-clause-permitted c = λ server rules state now tuple user id wanted want peer mapped others can.
+    record { given = s_done; answered = (permit_granted server rules (s_at now state) tuple user (peer ∷ others) can).output; heard = refl }
 
 pub returns-clause-bound : goal.returns-clause-bound
 returns-clause-bound c = λ server rules state now tuple user id number wanted want peer mapped can.
