@@ -16,6 +16,7 @@ PATIENCE = 20  # seconds, for what takes a moment on an idle machine
 SANITIZED = ["-fsanitize=address,undefined", "-fno-sanitize-recover=all", "-g"]
 
 passed = failed = 0
+wrong = []  # what was printed of the steps that failed, also of those that passed at the second try
 counting = threading.Lock()  # of steps that run at once
 wanted = ""  # trials without this in their names aren't run
 archives = []  # what the library is made of, for c/install
@@ -29,6 +30,10 @@ class Skipped(Exception):
     """Why a step isn't tried on this machine."""
 
 
+# What a step fails with.
+FAILURES = (Wrong, OSError, ValueError, KeyError, subprocess.SubprocessError)
+
+
 def skip(name, why):
     print(f"{name}: skipped, {why}", flush=True)
 
@@ -36,6 +41,13 @@ def skip(name, why):
 def check(holds, told):
     if not holds:
         raise Wrong(told)
+
+
+def note(name, error, what_follows=""):
+    """Prints what is wrong in a step, and keeps it for the end."""
+    with counting:
+        wrong.append(f"{name}: {type(error).__name__}: {error}{what_follows}")
+        print(wrong[-1], flush=True)
 
 
 @contextlib.contextmanager
@@ -47,10 +59,10 @@ def step(name):
         yield
     except Skipped as why:
         skip(name, why)
-    except (Wrong, OSError, ValueError, KeyError, subprocess.SubprocessError) as error:
+    except FAILURES as error:
         with counting:
             failed += 1
-            print(f"{name}: {type(error).__name__}: {error}", flush=True)
+        note(name, error)
     else:
         with counting:
             passed += 1
@@ -58,9 +70,15 @@ def step(name):
 
 
 def trial(name, function, *given):
-    """A step that is one function, if its name is wanted."""
-    if wanted in name:
-        with step(name):
+    """A step that is one function, if its name is wanted. One that fails is tried once more, since other work
+    can hold up programs for longer than a trial waits for them: what fails twice has failed."""
+    if wanted not in name:
+        return
+    with step(name):
+        try:
+            function(*given)
+        except FAILURES as error:
+            note(name, error, " (it is tried once more)")
             function(*given)
 
 
@@ -157,6 +175,7 @@ def run_in_folder(name, run_all):
     began = time.monotonic()
     with tempfile.TemporaryDirectory(prefix=name) as folder:
         run_all(pathlib.Path(folder))
+    print("".join(f"was wrong: {line}\n" for line in wrong), end="")
     print(f"{time.monotonic() - began:.0f} s\n{passed} passed, {failed} failed")
     return 1 if failed or not passed else 0
 

@@ -109,6 +109,12 @@ class Server:
                     found.append(int(path.parent.name))
         return found
 
+    def kill_workers(self):
+        """Kills the processes that it has started, but for those that have just ended."""
+        for worker in self.workers():
+            with contextlib.suppress(ProcessLookupError):
+                os.kill(worker, signal.SIGKILL)
+
     def sockets(self):
         """How many sockets each of its workers has, in ascending order."""
         counts = []

@@ -1,9 +1,7 @@
 """Trials of what the server reports to Prometheus."""
 import contextlib
-import os
 import re
 import shutil
-import signal
 import socket
 import subprocess
 import time
@@ -90,8 +88,7 @@ def gauges(programs):
         check(10**6 < found["stun_server_memory_bytes"] < 10**9, f"it reports {found}")
         stream.socket.close()
         reports(allocations=1 + len(codes), connections=0)
-        for worker in server.workers():
-            os.kill(worker, signal.SIGKILL)
+        server.kill_workers()
         found = reports(allocations=0, workers_died_total=3)
         total = found["stun_server_turn_allocated_total"]
         check(total == found["stun_server_turn_ended_total"] == 2 + len(codes), f"it reports {found}")

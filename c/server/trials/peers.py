@@ -1,9 +1,7 @@
 """Trials of whom clients of a TURN server reach as peers, and of what they don't reach."""
 import contextlib
 import ipaddress
-import os
 import re
-import signal
 import socket
 import sys
 
@@ -259,8 +257,7 @@ def change(server, start, client, near, other, far):
     reset(server, start + "allow 10.0.0.0/8\nallow 127.0.0.0/9\n")
     client.permit(("10.0.0.1", 7))
     with contextlib.ExitStack() as all_of:
-        for worker in server.workers():
-            os.kill(worker, signal.SIGKILL)
+        server.kill_workers()
         server.wait_for("worker-died")
         def allocated():
             with contextlib.suppress(OSError, Wrong):
