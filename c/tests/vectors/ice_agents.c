@@ -6,6 +6,7 @@
 
 #include "../heap.h"
 #include "turn.h"
+#include "wakes.h"
 
 /* The room for a message, the most requests that a response is waited for, and the most changes of an event. */
 enum { ICE_ROOM = 1500, MOST_REQUESTS = 200, MOST_CHANGES = 64, CHANGE_MOST = 100 };
@@ -443,8 +444,8 @@ static void answer_request(const stun_types_ice_request *request, const uint8_t 
     request_count++;
 }
 
-static void poll(void) {
-    const uint64_t number = call_count();
+/* Polls with an ID, and answers what the request is; false if none is due. */
+static bool poll_with(uint64_t number) {
     const stun_types_id id = id_of_number(number);
     const slice id_given = given(&id, sizeof id);
     stun_types_ice_request *request = NEW(stun_types_ice_request);
@@ -455,12 +456,13 @@ static void poll(void) {
     CHECK(request->length <= ICE_ROOM && is_untouched(out + request->length, ICE_ROOM - request->length));
     is_awake = true;
     wakes = *wake;
-    if (request->length != 0) {
-        answer_request(request, out, number);
-        return;
-    }
-    CHECK(is_zero(request, sizeof *request));
-    answer_word("idle");
+    if (request->length != 0) answer_request(request, out, number);
+    else CHECK(is_zero(request, sizeof *request));
+    return request->length != 0;
+}
+
+static void poll(void) {
+    if (!poll_with(call_count())) answer_word("idle");
 }
 
 /* ---- what the agent is */
@@ -484,20 +486,27 @@ static void pair(void) {
     answer_word("none");
 }
 
-static void wake(void) {
+
+static void answer_wake(uint64_t moment) {
     char digits[10];
     size_t length;
     answer_space();
-    if (!is_awake) answer_unknown();
-    if (wakes == UINT64_MAX) {
+    if (moment == UINT64_MAX) {
         answer_text("wake:never");
         return;
     }
-    answer_text("wake:%llu", (unsigned long long)(wakes / 1000000000));
-    if (wakes % 1000000000 == 0) return;
-    snprintf(digits, sizeof digits, "%09u", (unsigned)(wakes % 1000000000));
+    answer_text("wake:%llu", (unsigned long long)(moment / 1000000000));
+    if (moment % 1000000000 == 0) return;
+    snprintf(digits, sizeof digits, "%09u", (unsigned)(moment % 1000000000));
     for (length = 9; digits[length - 1] == '0';) length--;
     answer_text(".%.*s", (int)length, digits);
+}
+
+/* The moment is now if a poll would write a request. */
+static void wake(void) {
+    uint64_t moment = wakes;
+    if (is_awake || wakes_next(&moment)) answer_wake(moment);
+    else wakes_keep(poll_with(0) ? now : wakes);
 }
 
 static char changes[MOST_CHANGES][CHANGE_MOST];
@@ -607,7 +616,8 @@ static void make_keys(void) {
     heap_own(false);
 }
 
-static void answer_agent(void) {
+/* Makes an agent of the setup, and lets it have the events. */
+static void run_agent(void) {
     static const stun_types_ice none = STUN_TYPES_ICE_INIT;
     const stun_types_ice_settings settings = settings_of(call_word());
     const slice settings_given = given(&settings, sizeof settings);
@@ -624,12 +634,16 @@ static void answer_agent(void) {
     answer = stun_types_ice_new(agent, (const void *)settings_given.bytes);
     heap_measure(true);
     if (is_taken(answer))
-        while (!is_refused && (name = call_word()) != NULL) event(name);
-    answer_or_nothing();
+        while (!is_refused && !wakes_has_ended() && (name = call_word()) != NULL) event(name);
     stun_types_ice_free(agent);
     CHECK(is_zero(agent, sizeof *agent));
     stun_types_key_free(&own_key);
     stun_types_key_free(&peer_key);
+}
+
+static void answer_agent(void) {
+    wakes_run(run_agent);
+    answer_or_nothing();
 }
 
 const verb verbs_of_ice_agents[] = {{"agent", answer_agent, true}, {NULL, NULL, false}};
