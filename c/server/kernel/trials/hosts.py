@@ -1,8 +1,11 @@
 """Three hosts, a client, a server and a peer, in network namespaces, and what the program at the server relays."""
 import contextlib
+import ctypes
+import fcntl
 import itertools
 import os
 import socket
+import struct
 import subprocess
 import time
 
@@ -53,6 +56,14 @@ class Host:
             return made
 
 
+def write_checksums(name):
+    """Has checksums written before a packet leaves by an interface, as they are in what comes by a wire."""
+    order = struct.pack("<II", 0x17, 0)  # ETHTOOL_STXCSUM
+    room = ctypes.create_string_buffer(order)
+    with socket.socket(socket.AF_INET, socket.SOCK_DGRAM) as any_socket:
+        fcntl.ioctl(any_socket, 0x8946, struct.pack("<16sQ16x", name.encode(), ctypes.addressof(room)))  # SIOCETHTOOL
+
+
 @contextlib.contextmanager
 def three():
     """The client's and the peer's host; this process is the server's."""
@@ -62,16 +73,17 @@ def three():
             host = Host()
             hosts.append(host)
             sh(f"ip link add {near} type veth peer name {far} netns {host.ran.pid}")
-            # (what comes by a wire has its checksum written)
             for do, name, number in ((sh, near, 1), (host.do, far, 2)):
                 do(f"sysctl -qw net.ipv6.conf.{name}.accept_dad=0")
                 do(f"ip address add 10.77.{net}.{number}/24 dev {name}")
                 do(f"ip address add fd77:{net}::{number}/64 dev {name} nodad")
                 do(f"ip link set {name} up")
-            host.do(f"ethtool -K {far} tx off")
+            with host.here():
+                write_checksums(far)
         yield hosts
     finally:
-        for host in hosts:
+        for host, name in zip(hosts, ("near", "far")):
+            subprocess.run(["ip", "link", "delete", name], capture_output=True)
             host.ran.kill()
             host.ran.wait()
 
