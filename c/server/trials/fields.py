@@ -57,7 +57,7 @@ def dont_fragment(programs):
                 check(client.ask(ALLOCATE, UDP, DONT_FRAGMENT).code == 0, "no allocation")
                 client.bind(0x4001, peer.address)
                 for turn in range(100):
-                    data = [b"%d %d" % (turn, i) for i in range(4)]
+                    data = [b"%d" % turn + bytes(i) for i in range(4)]  # (none go together)
                     send_whole(client, peer, data[0])
                     client.send(peer.address, data[1])
                     client.send_on(0x4001, data[2])

@@ -6,6 +6,9 @@ import socket
 import struct
 import time
 
+from harness import free_port
+from metrics import shows
+from operators import report
 from steps import PATIENCE, check, run, wait_until
 from turn import (ALLOCATE, EVEN_PORT, OTHER, RELAYED, FAMILY, UDP, Client, Peer, ended, exchange, read_xored,
                   turn_server)
@@ -44,7 +47,7 @@ def both_families(programs):
     with turn_server(programs, *options) as server:
         before = server.sockets()
         for stream in (False, True):
-            with Client(server, stream=stream) as client, Client(server) as other:
+            with Client(server, stream=stream) as client, Client(server, stream=stream) as other:
                 answer = client.ask(ALLOCATE, UDP, (ADDITIONAL, b"\2\0\0\0"))
                 relayed = all_relayed(answer)
                 check(answer.code == 0 and [it[0] for it in relayed] == ["127.0.0.1", "::1"], f"{relayed}")
@@ -64,6 +67,21 @@ def both_families(programs):
         check(counted["turn_allocated"] == counted["turn_ended"] == 6, str(counted))
 
 
+@contextlib.contextmanager
+def reserving_server(programs, *options, **how):
+    """A server that reserves ports; how many are reserved is asked for by its `reserved`."""
+    where = ("127.0.0.1", int(free_port(["127.0.0.1"])))
+    with turn_server(programs, "-m", str(where[1]), *options, **how) as server:
+        server.where = where
+        yield server
+
+
+def reserves(server, number):
+    """Waits until so many ports are reserved."""
+    told = f"it reserves {report(server.where)['stun_server_reserved']} ports, not {number}"
+    wait_until(lambda: shows(server.where, reserved=number), told)
+
+
 def reserve(client, *given, wanted=0):
     """Reserves a port: the relayed address, and the token."""
     answer = client.ask(ALLOCATE, UDP, RESERVING, *given)
@@ -76,14 +94,14 @@ def reserved(programs):
     over UDP and TCP, IPv4 and IPv6. Without the setting it gets none."""
     at = ("127.0.0.1", "::1")
     options = ["-t", "-o", "reservations=2", "-o", "ports=51000-51039"]
-    with turn_server(programs, *options, at=at) as server:
+    with reserving_server(programs, *options, at=at) as server:
         before = server.sockets()
         for address in at:
             for stream in (False, True):
                 reserve_one(server, address, stream)
         wait_until(lambda: server.sockets() == before, f"sockets are left: {server.sockets()}")
         counted = ended(server)
-        check(counted["turn_allocated"] == counted["turn_ended"] == 8 and counted["reserved"] == 0, str(counted))
+        check(counted["turn_allocated"] == counted["turn_ended"] == 8, str(counted))
         check(counted["turn_to_peer"] == counted["turn_to_client"] == 4 * 7, str(counted))
     with turn_server(programs) as server, Client(server) as client:
         check(reserve(client, wanted=508) is None and client.allocate(), "it isn't refused")
@@ -98,9 +116,10 @@ def reserve_one(server, address, stream):
             Peer(OTHER[address]) as peer:
         (own, port), token = reserve(client, *family)
         check(own == address and port % 2 == 0 and 51000 <= port < 51039 and len(token) == 8, f"{own}:{port} {token}")
-        check(is_bound(address, port + 1) and server.counts()["reserved"] == 1, "the next port isn't bound")
+        check(is_bound(address, port + 1), "the next port isn't bound")
+        reserves(server, 1)
         check(other.allocate((TOKEN, token)) == (address, port + 1), "it gets another port")
-        check(server.counts()["reserved"] == 0, "it is reserved still")
+        reserves(server, 0)
         exchange(other, peer, (address, port + 1), b"data")
         check(client.refresh(0) == 0, "it doesn't end")
         client.allocate((TOKEN, token), wanted=508)
@@ -114,7 +133,7 @@ def reserved_in_a_loop(programs):
     another user, gets nothing."""
     options = ["-o", "reservations=4", "-o", "user-allocations=3", "-o", "ports=51000-51063"]
     users = "user pass\nbob word\neve word\n"
-    with turn_server(programs, *options, users=users) as server, contextlib.ExitStack() as all_of:
+    with reserving_server(programs, *options, users=users) as server, contextlib.ExitStack() as all_of:
         before = server.sockets()
         client = all_of.enter_context(Client(server))
         bob, eve = (all_of.enter_context(Client(server, user=name, password="word")) for name in ("bob", "eve"))
@@ -125,7 +144,8 @@ def reserved_in_a_loop(programs):
         for _ in range(100):
             reserve(client, wanted=508)
         taken.append(reserve(bob))
-        check(bob.refresh(0) == 0 and server.counts()["reserved"] == 4, str(server.counts()))
+        check(bob.refresh(0) == 0, "it doesn't end")
+        reserves(server, 4)
         for _ in range(100):
             reserve(eve, wanted=508)
         for token in [taken[0][1], *(secrets.token_bytes(8) for _ in range(1000))]:
@@ -136,12 +156,11 @@ def reserved_in_a_loop(programs):
         check(eve.refresh(0) == 0, "it doesn't end")
         check(client.allocate((TOKEN, taken[0][1])) == ("127.0.0.1", taken[0][0][1] + 1), "it gets another port")
         check(client.refresh(0) == 0 and time.monotonic() - began < SECONDS - 5, "that took too long")
-        check(server.counts()["reserved"] == 3, str(server.counts()))
+        reserves(server, 3)
         time.sleep(began + SECONDS - 1 - time.monotonic())
-        check(server.counts()["reserved"] == 3, "they ended too early")
-        wait_until(lambda: server.counts()["reserved"] == 0, "they don't end")
-        for (_, port), token in taken:
-            check(not is_bound("127.0.0.1", port + 1) or server.sockets() == before, "a port isn't free again")
+        check(shows(server.where, reserved=3), "they ended too early")
+        reserves(server, 0)
+        for _, token in taken:
             client.allocate((TOKEN, token), wanted=508)
         wait_until(lambda: server.sockets() == before, f"sockets are left: {server.sockets()}")
         reserve(client)
