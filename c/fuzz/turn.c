@@ -447,7 +447,8 @@ static void check_icmp(source *from) {
     HOLDS(model_parse(room, told->length).code == STUN_TYPES_OK);
     HOLDS(model_number(room) == 0x0017 && memcmp(room + 8, "transactions", 12) == 0);
     model_shown(room, told->length, &shown);
-    HOLDS(shown.count == 2 && (found = model_find(&shown, 0x8004)) != NULL && found->length == 8);
+    found = model_find(&shown, 0x8004);
+    HOLDS(shown.count == 2 && found != NULL && found->length == 8);
     HOLDS(memcmp(room + found->value_at, value, 4) == 0);
     HOLDS(memcmp(room + found->value_at + 4, is_too_large ? value + 4 : zeros, 4) == 0);
     found = model_find(&shown, 0x0012);

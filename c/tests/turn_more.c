@@ -143,15 +143,17 @@ static void test_icmp(void) {
     static const size_t sizes[] = {0, 44, 55};
     turn_making it;
     const stun_types_id id = turn_id(5);
-    stun_types_turn_notice *notice = NEW(stun_types_turn_notice);
+    stun_types_turn_notice *notice;
     stun_types_icmp error = {0, 3, 3};
-    uint8_t *place = room(60);
+    uint8_t *place;
     uint64_t relay;
     size_t i;
     site_begin_alone("ICMP packets");
     it = site_making();
     it.settings.limits.icmp = 1;
     site_begin_by(&it);
+    notice = NEW(stun_types_turn_notice);
+    place = room(60);
     CHECK(site_allocate(0, 1) == 0);
     relay = site.action->ipv4.relay;
     CHECK(site_permit(0, &site_peer) == 0);
@@ -204,6 +206,9 @@ static void test_icmp(void) {
     CHECK(notice->sends == 0 && notice->ended == 1 && is_untouched(place, 60));
     site_end();
     site_begin("ICMP packets, without the setting");
+    notice = NEW(stun_types_turn_notice);
+    place = room(60);
+    memset(place, FILL, 60);
     CHECK(site_allocate(0, 1) == 0);
     relay = site.action->ipv4.relay;
     CHECK(site_permit(0, &site_peer) == 0);
@@ -211,6 +216,8 @@ static void test_icmp(void) {
     CHECK(is_zero(notice, sizeof *notice) && is_untouched(place, 60));
     site_end();
     row("a TURN server", "ICMP packets without a server");
+    notice = NEW(stun_types_turn_notice);
+    place = room(60);
     {
         stun_types_turn none = STUN_TYPES_TURN_INIT;
         ANSWERS(stun_types_turn_icmp(&none, 0, &site_peer, 0, &error, &id, place, 60, notice),
@@ -246,26 +253,27 @@ static void test_fields(void) {
         {100, 1, 6, 6, 7, {0, UNSET, 3, 1}, 1, {UNSET, 0, 0, 1}},
         {100, 1, 6, 4, 0, {1, 1, 3, 1}, 1, {UNSET, 1, 0, 0}},
     };
-    stun_types_turn_relayed *relayed = NEW(stun_types_turn_relayed);
-    stun_types_turn_sent *sent = NEW(stun_types_turn_sent);
-    uint16_t *const fields[] = {&relayed->stream,       &relayed->from,         &relayed->to,
-                                &relayed->received.ecn, &relayed->received.dscp, &relayed->received.hop_limit,
-                                &relayed->received.dont_fragment};
+    stun_types_turn_relayed given;
+    stun_types_turn_sent told, *sent = &told;
+    stun_types_turn_relayed *relayed = &given;
+    uint16_t *const fields[] = {&given.stream,       &given.from,          &given.to,
+                                &given.received.ecn, &given.received.dscp, &given.received.hop_limit,
+                                &given.received.dont_fragment};
     static const uint16_t wrong[] = {2, 5, 0, 4, 64, 256, 2};
     size_t i;
     row("fields of the IP header", "of data that is relayed");
     for (i = 0; i < COUNT(rows); i++) {
-        const uint16_t *given = rows[i].received, *wanted = rows[i].sent;
+        const uint16_t *came = rows[i].received, *wanted = rows[i].sent;
         memset(relayed, 0, sizeof *relayed);
         relayed->length = rows[i].length;
         relayed->stream = rows[i].stream;
         relayed->from = rows[i].from;
         relayed->to = rows[i].to;
         relayed->dont_fragment = rows[i].dont_fragment;
-        relayed->received.hop_limit = given[0];
-        relayed->received.dscp = given[1];
-        relayed->received.ecn = given[2];
-        relayed->received.dont_fragment = given[3];
+        relayed->received.hop_limit = came[0];
+        relayed->received.dscp = came[1];
+        relayed->received.ecn = came[2];
+        relayed->received.dont_fragment = came[3];
         memset(sent, FILL, sizeof *sent);
         ANSWERS(stun_types_turn_fields(relayed, sent), OK_ANSWER);
         CHECK(sent->sends == rows[i].sends && sent->fields.hop_limit == wanted[0] && sent->fields.dscp == wanted[1]);
