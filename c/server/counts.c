@@ -39,7 +39,7 @@ static const struct {
     [TURN_OVER] = {"turn_over", "Datagrams dropped over a limit of data"},
     [TURN_FAILED] = {"turn_failed", "Datagrams to peers that the system refused to send"},
     [TURN_NO_PORT] = {"turn_no_port", "Relay sockets that could not be opened"},
-    [TURN_ICMP] = {"turn_icmp", "ICMP packets that clients were told of"},
+    [TURN_ICMP] = {"turn_icmp", "ICMP packets passed to clients"},
     [TURN_HOPS] = {"turn_hops", "Datagrams dropped since their Hop Limit was used up"},
     [LOG_LINES] = {"log_lines", "Lines of the log of allocations"},
     [LOG_DROPPED] = {"log_dropped", "Lines of the log of allocations that were dropped"},

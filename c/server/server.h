@@ -272,7 +272,7 @@ enum {
     TURN_OVER,    /* over a bandwidth */
     TURN_FAILED,  /* the system refused to send to a peer */
     TURN_NO_PORT, /* no relay socket could be opened */
-    TURN_ICMP,    /* ICMP packets that clients have learnt of */
+    TURN_ICMP,    /* ICMP packets passed to clients */
     TURN_HOPS,    /* dropped, since the hop limit was used up */
     LOG_LINES, /* of the log of allocations, written and not */
     LOG_DROPPED,

@@ -587,7 +587,7 @@ void take_from_peers(uint64_t number) {
     if (turn.process.flush != NULL) held += got; /* (otherwise their rooms are free again) */
 }
 
-/* Tells a client of an ICMP packet, in a room. Returns whether the room is in use. */
+/* Passes an ICMP packet to a client, in a room. Returns whether the room is in use. */
 static bool relay_icmp(relay *by, const icmp_packet *packet, uint8_t *room) {
     stun_types_turn_notice notice;
     stun_types_answer answer =
