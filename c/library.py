@@ -33,6 +33,8 @@ VERDICTS = {
     "nonce_state",
     "turn_action",
     "turn_delivery",
+    "turn_notice",
+    "turn_sent",
     "allocation_data",
     "allocation_head",
     "allocation_change",
@@ -49,7 +51,7 @@ ZEROS = {
 }
 # What it returns. A call that counts what it wrote wrote nothing.
 REFUSED = {"bool": "false", "size_t": "SIZE_MAX", "stun_types_answer": "refused"}
-REFUSED_BY = {"stun_types_turn_ended": "0", "stun_types_turn_end_user": "0"}
+REFUSED_BY = {"stun_types_turn_ended": "0", "stun_types_turn_over": "0", "stun_types_turn_end_user": "0"}
 BEGINS = """\
 /* (written by c/library.py) */
 #include <stdbool.h>

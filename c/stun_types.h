@@ -8,7 +8,7 @@
  * - What a call writes, a slice or a struct, overlaps no other argument of it, nor a slice in a struct
  *   that is passed in. A call compares the addresses before all else: if it would write what overlaps
  *   another argument, it returns BAD_ARGUMENT, or false, or, if it counts, SIZE_MAX;
- *   stun_types_turn_ended and stun_types_turn_end_user return 0.
+ *   stun_types_turn_ended, stun_types_turn_over and stun_types_turn_end_user return 0.
  * - No call keeps a pointer, prints, blocks or aborts. Only the calls whose comments say so
  *   allocate (by malloc), and at most twice the bytes of their arguments and 1,024 more at once;
  *   stun_types_turn_new, stun_types_allocation_new and stun_types_ice_new allocate more. All may run in several threads at once. One key may be used
@@ -20,8 +20,8 @@
  *   comment lists first; OUT_OF_MEMORY may come before the last of them.
  * - No zero permits anything. A verdict is a struct of type stun_types_validated,
  *   stun_types_authentication, stun_types_action, stun_types_received, stun_types_turn_action,
- *   stun_types_turn_delivery, stun_types_allocation_data, stun_types_allocation_head,
- *   stun_types_allocation_change, stun_types_ice_received, stun_types_ice_request, stun_types_ice_path,
+ *   stun_types_turn_delivery, stun_types_turn_notice, stun_types_turn_sent, stun_types_allocation_data,
+ *   stun_types_allocation_head, stun_types_allocation_change, stun_types_ice_received, stun_types_ice_request, stun_types_ice_path,
  *   stun_types_ice_standing, stun_types_ice_checked or stun_types_ice_change: a call that fails fills it with zeros, which say that nothing is
  *   decided or done; of stun_types_turn_client see there. stun_types_transaction_begin zeroes its
  *   transaction likewise, and the two calls that report a stun_types_covered zero it. A
@@ -1266,13 +1266,13 @@ typedef struct {
                                    refused with 508 */
     uint32_t relays_per_user;   /* the most relayed addresses of one user (486). An allocation with an
                                    address of each family counts as two */
-    uint32_t reservations;      /* the most sockets that are reserved for the R bit of EVEN-PORT. The calls
-                                   of this header reserve none: such a request is refused with 508 */
+    uint32_t reservations;      /* the most sockets that are reserved at a time, by the R bit of EVEN-PORT:
+                                   a request for one more is refused with 508 */
     uint32_t greatest_lifetime; /* seconds; below 600, as 0, it counts as 600 */
     uint16_t ipv4, ipv6;        /* not 0: the server relays the family. A request for another one is refused
                                    with 440, and if a socket of the family isn't ready with 508 */
     uint16_t dont_fragment;     /* not 0: the program can set the DF bit of what it sends to peers */
-    uint16_t icmp;              /* not 0: ICMP packets are relayed. No call of this header takes one */
+    uint16_t icmp;              /* not 0: ICMP packets are relayed: stun_types_turn_icmp */
     uint16_t channel_permits;   /* not 0: the permission that a ChannelBind request installs lasts as long
                                    as the channel, 600 seconds. By RFC 8656 it lasts 300, but some clients
                                    refresh only their channels */
@@ -1371,9 +1371,10 @@ typedef struct {
 
 /* The sockets that are ready for Allocate requests, by the addresses that clients get: family 0, none, and
    a request for one is refused with 508. One for any port, one whose port is even; the same socket may be
-   both. No relayed address may have it already: the server doesn't check that. */
+   both. And one to be reserved with the even one: it has the same IP address and the next higher port. No
+   relayed address and no reservation may have one of them already: the server doesn't check that. */
 typedef struct {
-    stun_types_address any_ipv4, even_ipv4, any_ipv6, even_ipv6;
+    stun_types_address any_ipv4, even_ipv4, any_ipv6, even_ipv6, next_ipv4, next_ipv6;
 } stun_types_turn_ready;
 
 /* A client's datagram. All zeros, but for its bytes and where it comes from: no socket is ready, and no
@@ -1385,6 +1386,8 @@ typedef struct {
     stun_types_turn_ready ready;
     uint16_t looked_up; /* not 0: the keys that are passed are those of its user */
     uint32_t reserved;
+    uint64_t token; /* random, new for each call: the RESERVATION-TOKEN of a request that reserves. Without a
+                       socket to be reserved it isn't used */
 } stun_types_turn_datagram;
 
 typedef STUN_TYPES_ENUM(stun_types_turn_kind) {
@@ -1413,7 +1416,12 @@ typedef struct {
     stun_types_address peer; /* TO_PEER */
     stun_types_turn_kind kind;
     uint32_t code;           /* RESPONSE: the error code, or 0 if it is a success response */
-    uint32_t dont_fragment;  /* TO_PEER: 1: send with the DF bit */
+    uint32_t dont_fragment;  /* TO_PEER: 1: send with the DF bit. For a client over UDP that holds from IPv4 to
+                                IPv4: stun_types_turn_fields */
+    uint64_t reserved;       /* reserves: keep the socket that was ready as the next one of ipv4, or of ipv6, by this
+                                token, until it is claimed, or stun_types_turn_over has it */
+    uint64_t claimed;        /* claims: the socket of ipv4, or of ipv6, is the one that is kept by this token */
+    uint32_t reserves, claims; /* 1, or 0 */
 } stun_types_turn_action;
 
 /* Takes a client's datagram: keeps what it changes, and says what is to be done. now is a monotonic
@@ -1429,8 +1437,8 @@ typedef struct {
 
    A response is written into room. 1,000 bytes have room for any, but for a 420 that lists more than
    400 types. TOO_SMALL, OUT_OF_MEMORY: it isn't written, and the kind is STUN_TYPES_TURN_NOTHING. The
-   request has taken effect, though: ended, ipv4 and ipv6 say what it ended and took, and if the client
-   sends it again it is answered. INVALID_DATA: the same, since the key is made for the other integrity
+   request has taken effect, though: ended, ipv4, ipv6, reserves and claims say what it ended and took, and if
+   the client sends it again it is answered. INVALID_DATA: the same, since the key is made for the other integrity
    algorithm. OUT_OF_MEMORY also if a key can't be copied: nothing has changed, and the action is zeros.
    BAD_ARGUMENT, and nothing has changed: there is no server, a family is neither 4 nor 6, an address
    that is ready is of the other family, stream is neither 0 nor 1, or reserved is not 0.
@@ -1468,6 +1476,67 @@ stun_types_answer stun_types_turn_peer(stun_types_turn *server, uint64_t now,
                                        size_t data_length, const stun_types_id *id, uint8_t *head,
                                        size_t size, stun_types_turn_delivery *delivery);
 
+/* An ICMP packet. */
+typedef struct {
+    uint32_t data; /* the MTU of the next hop, if the datagram was too large */
+    uint8_t icmp_type, code;
+} stun_types_icmp;
+
+/* What to do with it. */
+typedef struct {
+    stun_types_five_tuple to;
+    uint16_t sends; /* 1: room[0 .. length) goes to the client; 0: the packet is dropped */
+    size_t length;
+    size_t ended;   /* how many relayed addresses the call ended: stun_types_turn_ended */
+} stun_types_turn_notice;
+
+#define STUN_TYPES_TURN_NOTICE 56
+
+/* Takes an ICMP packet about a datagram that the socket relay sent to peer: a Data indication with the peer's
+   address and an ICMP attribute is written into room, which has size bytes, at least STUN_TYPES_TURN_NOTICE
+   (RFC 8656, sections 11.5 and 18.13). The attribute has the data of the packet only if the datagram was too
+   large (type 3 and code 4 of IPv4, type 2 of IPv6), and otherwise 0. peer: where the datagram went to, as the
+   packet shows it, and not where the packet came from. id: random; the transaction ID. The packet is dropped
+   unless limits.icmp is set, if its type isn't 3 or 11 for IPv4, or 1, 2 or 3 for IPv6, if the socket is no live
+   relayed address's, if there is no permission for the peer, or if the peer is denied. It allocates nothing.
+   BAD_ARGUMENT: there is no server, or a family is neither 4 nor 6. TOO_SMALL: room is shorter. */
+STUN_TYPES_NODISCARD STUN_TYPES_NONNULL((1, 3, 5, 6, 9))
+stun_types_answer stun_types_turn_icmp(stun_types_turn *server, uint64_t now,
+                                       const stun_types_address *peer, uint64_t relay,
+                                       const stun_types_icmp *error, const stun_types_id *id, uint8_t *room,
+                                       size_t size, stun_types_turn_notice *notice);
+
+#define STUN_TYPES_FIELD_UNSET 0xFFFF
+
+/* Fields of an IP header. STUN_TYPES_FIELD_UNSET: the field isn't known, or it is sent with the system's default. */
+typedef struct {
+    uint16_t hop_limit;     /* at most 255; over IPv4 the TTL */
+    uint16_t dscp;          /* the Differentiated Services Code Point, at most 63 */
+    uint16_t ecn;           /* Explicit Congestion Notification, at most 3 */
+    uint16_t dont_fragment; /* 1: the DF bit is set, or over IPv6 there is no Fragment header; 0: it isn't */
+} stun_types_ip_fields;
+
+/* How data came that is relayed in a UDP datagram, to a peer or to a client. */
+typedef struct {
+    size_t length;          /* how many bytes the datagram carries */
+    uint16_t stream;        /* 0: a UDP datagram brought the data; 1: the connection of a client */
+    uint16_t from, to;      /* the families, 4 or 6, of the packet that brought it and of the datagram */
+    uint16_t dont_fragment; /* not 0: as in stun_types_turn_action */
+    stun_types_ip_fields received; /* what is known of the packet that brought it; of a connection its DSCP */
+} stun_types_turn_relayed;
+
+typedef struct {
+    stun_types_ip_fields fields;
+    uint16_t sends; /* 1: send with these fields; 0: send nothing, since the Hop Limit reaches 0 */
+} stun_types_turn_sent;
+
+/* Says which fields the IP header of a datagram has that relays data (RFC 8656, sections 13 to 15): for each the
+   preferred behaviour, and the alternate one if that field of the packet that brought the data isn't known. It
+   allocates nothing. BAD_ARGUMENT, and sends is 0: a family is neither 4 nor 6, stream is neither 0 nor 1, or a
+   field is greater than it may be. */
+STUN_TYPES_NODISCARD STUN_TYPES_NONNULL((1, 2))
+stun_types_answer stun_types_turn_fields(const stun_types_turn_relayed *relayed, stun_types_turn_sent *sent);
+
 /* Ends what has expired, and returns how many relayed addresses it ended: stun_types_turn_ended. Without a
    server it is 0. Each call that takes the time does this, so that a server without datagrams needs it
    alone: call it once a second, or at stun_types_turn_next_due. */
@@ -1492,8 +1561,14 @@ size_t stun_types_turn_end_user(stun_types_turn *server, uint64_t now, const stu
 STUN_TYPES_NODISCARD STUN_TYPES_NONNULL((1))
 size_t stun_types_turn_ended(stun_types_turn *server, uint64_t *numbers, size_t room, size_t first);
 
-/* When the next relayed address expires, by the clock of the caller: before, stun_types_turn_poll ends
-   nothing. UINT64_MAX: there is none, or no server. */
+/* The tokens of the reserved sockets that expired in the last call with a time, to be closed, as
+   stun_types_turn_ended has numbers. So that no other call ends one unseen, call stun_types_turn_poll first when
+   stun_types_turn_next_due has come. */
+STUN_TYPES_NODISCARD STUN_TYPES_NONNULL((1))
+size_t stun_types_turn_over(stun_types_turn *server, uint64_t *tokens, size_t room, size_t first);
+
+/* When the next relayed address or reservation expires, by the clock of the caller: before, stun_types_turn_poll
+   ends nothing. UINT64_MAX: there is none, or no server. */
 STUN_TYPES_NODISCARD STUN_TYPES_NONNULL((1))
 uint64_t stun_types_turn_next_due(stun_types_turn *server);
 
@@ -2217,23 +2292,26 @@ STUN_TYPES_LAYOUT(five_tuple_size, sizeof(stun_types_five_tuple) == 42);
 STUN_TYPES_LAYOUT(five_tuple_client, offsetof(stun_types_five_tuple, client) == 0);
 STUN_TYPES_LAYOUT(five_tuple_server, offsetof(stun_types_five_tuple, server) == 20);
 STUN_TYPES_LAYOUT(five_tuple_stream, offsetof(stun_types_five_tuple, stream) == 40);
-STUN_TYPES_LAYOUT(turn_ready_size, sizeof(stun_types_turn_ready) == 80);
+STUN_TYPES_LAYOUT(turn_ready_size, sizeof(stun_types_turn_ready) == 120);
 STUN_TYPES_LAYOUT(turn_ready_any_ipv4, offsetof(stun_types_turn_ready, any_ipv4) == 0);
 STUN_TYPES_LAYOUT(turn_ready_even_ipv4, offsetof(stun_types_turn_ready, even_ipv4) == 20);
 STUN_TYPES_LAYOUT(turn_ready_any_ipv6, offsetof(stun_types_turn_ready, any_ipv6) == 40);
 STUN_TYPES_LAYOUT(turn_ready_even_ipv6, offsetof(stun_types_turn_ready, even_ipv6) == 60);
-STUN_TYPES_LAYOUT(turn_datagram_size, sizeof(stun_types_turn_datagram) == 144);
+STUN_TYPES_LAYOUT(turn_ready_next_ipv4, offsetof(stun_types_turn_ready, next_ipv4) == 80);
+STUN_TYPES_LAYOUT(turn_ready_next_ipv6, offsetof(stun_types_turn_ready, next_ipv6) == 100);
+STUN_TYPES_LAYOUT(turn_datagram_size, sizeof(stun_types_turn_datagram) == 192);
 STUN_TYPES_LAYOUT(turn_datagram_bytes, offsetof(stun_types_turn_datagram, bytes) == 0);
 STUN_TYPES_LAYOUT(turn_datagram_length, offsetof(stun_types_turn_datagram, length) == 8);
 STUN_TYPES_LAYOUT(turn_datagram_from, offsetof(stun_types_turn_datagram, from) == 16);
 STUN_TYPES_LAYOUT(turn_datagram_ready, offsetof(stun_types_turn_datagram, ready) == 58);
-STUN_TYPES_LAYOUT(turn_datagram_looked_up, offsetof(stun_types_turn_datagram, looked_up) == 138);
-STUN_TYPES_LAYOUT(turn_datagram_reserved, offsetof(stun_types_turn_datagram, reserved) == 140);
+STUN_TYPES_LAYOUT(turn_datagram_looked_up, offsetof(stun_types_turn_datagram, looked_up) == 178);
+STUN_TYPES_LAYOUT(turn_datagram_reserved, offsetof(stun_types_turn_datagram, reserved) == 180);
+STUN_TYPES_LAYOUT(turn_datagram_token, offsetof(stun_types_turn_datagram, token) == 184);
 STUN_TYPES_LAYOUT(turn_opened_size, sizeof(stun_types_turn_opened) == 32);
 STUN_TYPES_LAYOUT(turn_opened_relay, offsetof(stun_types_turn_opened, relay) == 0);
 STUN_TYPES_LAYOUT(turn_opened_relayed, offsetof(stun_types_turn_opened, relayed) == 8);
 STUN_TYPES_LAYOUT(turn_opened_took, offsetof(stun_types_turn_opened, took) == 28);
-STUN_TYPES_LAYOUT(turn_action_size, sizeof(stun_types_turn_action) == 128);
+STUN_TYPES_LAYOUT(turn_action_size, sizeof(stun_types_turn_action) == 152);
 STUN_TYPES_LAYOUT(turn_action_relay, offsetof(stun_types_turn_action, relay) == 0);
 STUN_TYPES_LAYOUT(turn_action_at, offsetof(stun_types_turn_action, at) == 8);
 STUN_TYPES_LAYOUT(turn_action_length, offsetof(stun_types_turn_action, length) == 16);
@@ -2244,12 +2322,40 @@ STUN_TYPES_LAYOUT(turn_action_peer, offsetof(stun_types_turn_action, peer) == 96
 STUN_TYPES_LAYOUT(turn_action_kind, offsetof(stun_types_turn_action, kind) == 116);
 STUN_TYPES_LAYOUT(turn_action_code, offsetof(stun_types_turn_action, code) == 120);
 STUN_TYPES_LAYOUT(turn_action_dont_fragment, offsetof(stun_types_turn_action, dont_fragment) == 124);
+STUN_TYPES_LAYOUT(turn_action_reserved, offsetof(stun_types_turn_action, reserved) == 128);
+STUN_TYPES_LAYOUT(turn_action_claimed, offsetof(stun_types_turn_action, claimed) == 136);
+STUN_TYPES_LAYOUT(turn_action_reserves, offsetof(stun_types_turn_action, reserves) == 144);
+STUN_TYPES_LAYOUT(turn_action_claims, offsetof(stun_types_turn_action, claims) == 148);
 STUN_TYPES_LAYOUT(turn_delivery_size, sizeof(stun_types_turn_delivery) == 56);
 STUN_TYPES_LAYOUT(turn_delivery_to, offsetof(stun_types_turn_delivery, to) == 0);
 STUN_TYPES_LAYOUT(turn_delivery_sends, offsetof(stun_types_turn_delivery, sends) == 42);
 STUN_TYPES_LAYOUT(turn_delivery_head_length, offsetof(stun_types_turn_delivery, head_length) == 44);
 STUN_TYPES_LAYOUT(turn_delivery_padding, offsetof(stun_types_turn_delivery, padding) == 46);
 STUN_TYPES_LAYOUT(turn_delivery_ended, offsetof(stun_types_turn_delivery, ended) == 48);
+STUN_TYPES_LAYOUT(icmp_size, sizeof(stun_types_icmp) == 8);
+STUN_TYPES_LAYOUT(icmp_data, offsetof(stun_types_icmp, data) == 0);
+STUN_TYPES_LAYOUT(icmp_icmp_type, offsetof(stun_types_icmp, icmp_type) == 4);
+STUN_TYPES_LAYOUT(icmp_code, offsetof(stun_types_icmp, code) == 5);
+STUN_TYPES_LAYOUT(turn_notice_size, sizeof(stun_types_turn_notice) == 64);
+STUN_TYPES_LAYOUT(turn_notice_to, offsetof(stun_types_turn_notice, to) == 0);
+STUN_TYPES_LAYOUT(turn_notice_sends, offsetof(stun_types_turn_notice, sends) == 42);
+STUN_TYPES_LAYOUT(turn_notice_length, offsetof(stun_types_turn_notice, length) == 48);
+STUN_TYPES_LAYOUT(turn_notice_ended, offsetof(stun_types_turn_notice, ended) == 56);
+STUN_TYPES_LAYOUT(ip_fields_size, sizeof(stun_types_ip_fields) == 8);
+STUN_TYPES_LAYOUT(ip_fields_hop_limit, offsetof(stun_types_ip_fields, hop_limit) == 0);
+STUN_TYPES_LAYOUT(ip_fields_dscp, offsetof(stun_types_ip_fields, dscp) == 2);
+STUN_TYPES_LAYOUT(ip_fields_ecn, offsetof(stun_types_ip_fields, ecn) == 4);
+STUN_TYPES_LAYOUT(ip_fields_dont_fragment, offsetof(stun_types_ip_fields, dont_fragment) == 6);
+STUN_TYPES_LAYOUT(turn_relayed_size, sizeof(stun_types_turn_relayed) == 24);
+STUN_TYPES_LAYOUT(turn_relayed_length, offsetof(stun_types_turn_relayed, length) == 0);
+STUN_TYPES_LAYOUT(turn_relayed_stream, offsetof(stun_types_turn_relayed, stream) == 8);
+STUN_TYPES_LAYOUT(turn_relayed_from, offsetof(stun_types_turn_relayed, from) == 10);
+STUN_TYPES_LAYOUT(turn_relayed_to, offsetof(stun_types_turn_relayed, to) == 12);
+STUN_TYPES_LAYOUT(turn_relayed_dont_fragment, offsetof(stun_types_turn_relayed, dont_fragment) == 14);
+STUN_TYPES_LAYOUT(turn_relayed_received, offsetof(stun_types_turn_relayed, received) == 16);
+STUN_TYPES_LAYOUT(turn_sent_size, sizeof(stun_types_turn_sent) == 10);
+STUN_TYPES_LAYOUT(turn_sent_fields, offsetof(stun_types_turn_sent, fields) == 0);
+STUN_TYPES_LAYOUT(turn_sent_sends, offsetof(stun_types_turn_sent, sends) == 8);
 STUN_TYPES_LAYOUT(allocation_size, sizeof(stun_types_allocation) == 16);
 STUN_TYPES_LAYOUT(allocation_at, offsetof(stun_types_allocation, at) == 0);
 STUN_TYPES_LAYOUT(allocation_held, offsetof(stun_types_allocation, held) == 8);

@@ -413,6 +413,99 @@ static void check_peer(source *from) {
     check_ended();
 }
 
+/* An ICMP packet goes to the client that data of the peer would go to. */
+static void check_icmp(source *from) {
+    static const uint8_t types[][8] = {{3, 11, 3, 11, 4, 1, 0, 255}, {1, 2, 3, 1, 4, 11, 0, 255}};
+    unsigned how = take(from), more = take(from);
+    const stun_types_address *peer = copy_of(&peers[how % 8], sizeof *peers);
+    uint64_t relay = model.all[how / 8 % MODEL_TURN_ALLOCATIONS].relay + (how / 32 == 7);
+    const uint8_t kind = types[peer->family == 6][more % 8];
+    const stun_types_icmp error = {take_four(from), kind, (uint8_t)(more / 8 % 5)};
+    const bool is_too_large = peer->family == 4 ? kind == 3 && error.code == 4 : kind == 2;
+    const uint8_t value[] = {0, 0, kind, error.code, (uint8_t)(error.data >> 24), (uint8_t)(error.data >> 16),
+                             (uint8_t)(error.data >> 8), (uint8_t)error.data};
+    static const uint8_t zeros[4];
+    size_t size = STUN_TYPES_TURN_NOTICE + more / 64;
+    uint8_t *room = place(size);
+    const stun_types_id *id = copy_of("transactions", sizeof *id);
+    stun_types_turn_notice *told = NEW(stun_types_turn_notice);
+    stun_types_turn_delivery expected;
+    static model_list shown;
+    const stun_types_attribute *found;
+    stun_types_address address;
+    model_turn_peer(&model, now, relay, peer, 0, &expected);
+    if (model.settings.limits.icmp == 0 || more % 8 >= 4) memset(&expected, 0, sizeof expected);
+    SUCCEEDS(stun_types_turn_icmp(server, now, peer, relay, copy_of(&error, sizeof error), id, room, size, told));
+    HOLDS(told->sends == expected.sends && told->to.stream == expected.to.stream);
+    HOLDS(model_is_same_address(&told->to.client, &expected.to.client)
+          && model_is_same_address(&told->to.server, &expected.to.server));
+    HOLDS(told->length == (told->sends == 0 ? 0u : peer->family == 4 ? 44u : 56u));
+    HOLDS(is_filled(room + told->length, size - told->length));
+    take_ended(told->ended, 2);
+    check_ended();
+    if (told->sends == 0) return;
+    HOLDS(model_parse(room, told->length).code == STUN_TYPES_OK);
+    HOLDS(model_number(room) == 0x0017 && memcmp(room + 8, "transactions", 12) == 0);
+    model_shown(room, told->length, &shown);
+    found = model_find(&shown, 0x8004);
+    HOLDS(shown.count == 2 && found != NULL && found->length == 8);
+    HOLDS(memcmp(room + found->value_at, value, 4) == 0);
+    HOLDS(memcmp(room + found->value_at + 4, is_too_large ? value + 4 : zeros, 4) == 0);
+    found = model_find(&shown, 0x0012);
+    HOLDS(found != NULL && model_address(room + found->value_at, found->length, &address).code == STUN_TYPES_OK);
+    model_xor(room, &address);
+    HOLDS(model_is_same_address(&address, peer));
+}
+
+/* A field that may be unset, or too great. */
+static uint16_t take_field(source *from, unsigned most) {
+    unsigned how = take(from);
+    return (uint16_t)(how % 8 == 7 ? STUN_TYPES_FIELD_UNSET : how == 6 ? most + 1 : how == 14 ? 2 * most : how % (most + 1));
+}
+
+static bool is_field(unsigned field, unsigned most) { return field <= most || field == STUN_TYPES_FIELD_UNSET; }
+
+/* Fields of the IP header, by RFC 8656, sections 13 to 15. */
+static void check_fields(source *from) {
+    static const uint16_t families[] = {4, 6, 4, 6, 4, 6, 0, 5};
+    unsigned how = take(from), left;
+    stun_types_turn_relayed *it = NEW(stun_types_turn_relayed);
+    stun_types_turn_sent *told = NEW(stun_types_turn_sent);
+    const stun_types_ip_fields *came = &it->received;
+    bool is_routed, is_whole;
+    memset(it, 0, sizeof *it);
+    it->stream = how % 16 == 15 ? 2 : how % 2;
+    it->from = families[how / 2 % 8];
+    it->to = families[how / 16 % 8];
+    it->dont_fragment = how / 128;
+    it->length = take(from) % 4 == 0 ? 1230 + take(from) % 6u : take(from);
+    it->received.hop_limit = take_field(from, 255);
+    it->received.dscp = take_field(from, 63);
+    it->received.ecn = take_field(from, 3);
+    it->received.dont_fragment = take_field(from, 1);
+    const stun_types_answer answer = stun_types_turn_fields(it, told);
+    bool is_right = it->stream < 2 && it->from >= 4 && it->from != 5 && it->to >= 4 && it->to != 5
+                    && is_field(came->hop_limit, 255) && is_field(came->dscp, 63) && is_field(came->ecn, 3)
+                    && is_field(came->dont_fragment, 1);
+    HOLDS(is_same(answer, is_right ? FINE : BAD_ARGUMENT));
+    is_routed = it->stream == 0 && (it->from == 6 || it->to == 6);
+    if (!is_right || (is_routed && came->hop_limit <= 1)) {
+        HOLDS(told->sends == 0 && told->fields.hop_limit == 0 && told->fields.dscp == 0 && told->fields.ecn == 0
+              && told->fields.dont_fragment == 0);
+        return;
+    }
+    left = is_routed && came->hop_limit != STUN_TYPES_FIELD_UNSET ? came->hop_limit - 1u : STUN_TYPES_FIELD_UNSET;
+    is_whole = came->dont_fragment == 1;
+    HOLDS(told->sends == 1 && told->fields.hop_limit == left);
+    HOLDS(told->fields.dscp == (came->dscp == STUN_TYPES_FIELD_UNSET ? 0 : came->dscp));
+    HOLDS(told->fields.ecn == (it->stream == 1 || came->ecn == STUN_TYPES_FIELD_UNSET ? 0 : came->ecn));
+    if (it->stream == 1) HOLDS(told->fields.dont_fragment == it->dont_fragment);
+    else if (!is_routed) HOLDS(told->fields.dont_fragment == (it->dont_fragment == 1 || is_whole));
+    else if (it->to == 4 && came->dont_fragment != STUN_TYPES_FIELD_UNSET)
+        HOLDS(told->fields.dont_fragment == (is_whole && it->length > 1232));
+    else HOLDS(told->fields.dont_fragment == came->dont_fragment);
+}
+
 /* What has expired ends, and a relayed address, or all of a user. */
 static void check_ends(source *from) {
     unsigned how = take(from), which = how / 4 % MODEL_TURN_ALLOCATIONS;
@@ -477,6 +570,7 @@ static void check_left(void) {
         if (model.all[i].until < due) due = model.all[i].until;
     }
     HOLDS(stun_types_turn_count(server) == count && stun_types_turn_next_due(server) == due);
+    HOLDS(stun_types_turn_over(server, place(8), 1, 0) == 0); /* (nothing is reserved) */
 }
 
 /* Addresses of any families, and any transport: if there is none such, nothing is done. */
@@ -490,7 +584,8 @@ static void check_arguments(source *from, const stun_types_five_tuple *tuple) {
     uint16_t *const fields[] = {&other.client.family,    &other.server.family,
                                 &other.stream,           &ready.any_ipv4.family,
                                 &ready.even_ipv4.family, &ready.any_ipv6.family,
-                                &ready.even_ipv6.family};
+                                &ready.even_ipv6.family, &ready.next_ipv4.family,
+                                &ready.next_ipv6.family};
     uint16_t *field = fields[how % COUNT(fields)];
     if (how % 16 != 9) *field = (uint16_t)(how / 16 == 15 ? take_two(from) | 8 : *field == 6 && how % 2 == 1 ? 5 : 3);
     datagram = *datagram_of(&other, &ready, how % 3 == 0);
@@ -529,6 +624,7 @@ static bool begin(source *from) {
     settings.limits.ipv6 = more % 32 != 18;
     settings.features = more % 4;
     settings.limits.dont_fragment = more / 64 % 2;
+    settings.limits.icmp = more % 8 != 5;
     settings.limits.channel_permits = how / 16 % 2;
     settings.limits.old_channels = how / 32 % 2;
     keys[1][0] = &pairs[how / 64 == 2 ? PASSWORD_SHA1 : how / 64 == 3 ? PASSWORD_SHA256 : PASSWORD];
@@ -594,7 +690,9 @@ static void check_event(source *from) {
         message.length = from->left < 60 ? from->left : 60;
         take_bytes(from, message.bytes, message.length);
         check_client(from, &tuple, port);
-    } else if (kind < 26) check_peer(from);
+    } else if (kind < 25) check_peer(from);
+    else if (how == 25) check_fields(from);
+    else if (kind == 25) check_icmp(from);
     else if (kind < 29) check_ends(from);
     else if (kind == 29) check_changes(from);
     else take_moment(from);

@@ -18,7 +18,7 @@ enum {
 /* The control message of a bundle: that of its datagrams, and its length. */
 typedef union {
     size_t aligned;
-    char bytes[sizeof(target_control) + CMSG_SPACE(sizeof(uint16_t))];
+    char bytes[sizeof(sent_control) + CMSG_SPACE(sizeof(uint16_t))];
 } bundle_control;
 
 static struct {
@@ -81,12 +81,19 @@ static int make_bundles(const struct mmsghdr *messages, int count) {
     return made;
 }
 
+/* Whether a datagram is sent again: an ICMP packet about another one was the error. It is once. */
+static bool is_tried_again(int which, int *again) {
+    if (*again == which || !is_icmp_error(errno)) return false;
+    *again = which;
+    return true;
+}
+
 int send_all(int socket, struct mmsghdr *messages, int messages_count, int flags, tally *mine,
              int refused) {
-    int done = 0, all = 0;
+    int done = 0, all = 0, again = -1;
     while (done < messages_count) {
         int sent = sendmmsg(socket, messages + done, (unsigned)(messages_count - done), flags);
-        if (sent < 0 && errno == EINTR) continue;
+        if (sent < 0 && (errno == EINTR || is_tried_again(done, &again))) continue;
         if (sent > 0) {
             all += sent;
             done += sent;
@@ -102,10 +109,11 @@ int send_all(int socket, struct mmsghdr *messages, int messages_count, int flags
 /* Sends one datagram by a shorter way. */
 static int send_one(int socket, const struct msghdr *one, tally *mine, int refused) {
     ssize_t sent;
+    int again = -1;
     do {
         sent = sendto(socket, one->msg_iov->iov_base, one->msg_iov->iov_len, MSG_DONTWAIT, one->msg_name,
                       one->msg_namelen);
-    } while (sent < 0 && errno == EINTR);
+    } while (sent < 0 && (errno == EINTR || is_tried_again(0, &again)));
     if (sent < 0) count(mine, refused, 1);
     return sent < 0 ? 0 : 1;
 }

@@ -9,11 +9,11 @@ enum {
     MOST_TRIES = 256 /* ports that are tried for one socket */
 };
 
-/* What is asked of a port. */
-enum { ANY, EVEN, WISHES };
+/* What is asked of a port: any, an even one, or one that was reserved. */
+enum { ANY, EVEN, WISHES, CLAIMED = WISHES, SPARES };
 
 typedef struct {
-    int socket; /* -1: none */
+    int socket, next; /* next: that of an even port, which has the next one, to be reserved. -1: none */
     uint16_t port;
 } spare;
 
@@ -21,7 +21,7 @@ static struct {
     struct {
         bool is_there;
         stun_types_address own, outside; /* what its sockets are bound to, and what clients learn */
-        spare spares[WISHES];
+        spare spares[SPARES];
     } families[FAMILIES];
     uint32_t least, most; /* ports */
     relay *all;
@@ -78,6 +78,7 @@ static int make_socket(uint16_t family) {
     int type = SOCK_DGRAM | SOCK_NONBLOCK | SOCK_CLOEXEC;
     int made = socket(family == 4 ? AF_INET : AF_INET6, type, 0);
     if (made >= 0 && family == 6) (void)setsockopt(made, IPPROTO_IPV6, IPV6_V6ONLY, &on, sizeof on);
+    if (made >= 0) set_relay_options(made, family);
     return made;
 }
 
@@ -112,8 +113,21 @@ bool is_local(const stun_types_address *address) {
     return !is_other;
 }
 
+static bool lacks_next(const spare *of, int wish) {
+    return wish == EVEN && setting(RESERVATIONS) > 0 && of->socket >= 0 && of->next < 0;
+}
+
+/* Opens the socket with the next port after a spare one. False: it is taken. */
+static bool open_next(const stun_types_address *own, spare *of) {
+    if (of->port >= relays.most || (of->next = make_socket(own->family)) < 0) return false;
+    if (bind_to(of->next, *own, (uint16_t)(of->port + 1))) return true;
+    close(of->next);
+    of->next = -1;
+    return false;
+}
+
 /* Opens a spare socket. */
-static bool open_spare(int which, int wish) {
+static bool open_one(int which, int wish) {
     spare *opened = &relays.families[which].spares[wish];
     const stun_types_address *own = &relays.families[which].own;
     opened->socket = make_socket(own->family);
@@ -122,6 +136,31 @@ static bool open_spare(int which, int wish) {
     if (opened->socket >= 0) close(opened->socket);
     opened->socket = -1;
     return false;
+}
+
+/* Opens a spare socket; and for an even port, if ports are reserved, the next one: of a few that are tried the last
+ * may have none. */
+static bool open_spare(int which, int wish) {
+    enum { TRIES = 4 };
+    spare *opened = &relays.families[which].spares[wish];
+    for (int tries = 0; opened->socket >= 0 || open_one(which, wish); tries++) {
+        bool is_whole = !lacks_next(opened, wish) || open_next(&relays.families[which].own, opened);
+        if (is_whole || tries == TRIES) return true;
+        close(opened->socket);
+        opened->socket = -1;
+    }
+    return false;
+}
+
+/* The address of the socket with the next port after a spare one. */
+static stun_types_address next_address(int which) {
+    const spare *even = &relays.families[which].spares[EVEN];
+    stun_types_address address;
+    memset(&address, 0, sizeof address);
+    if (even->socket < 0 || even->next < 0) return address;
+    address = relays.families[which].outside;
+    address.port = (uint16_t)(even->port + 1);
+    return address;
 }
 
 /* The address of a spare socket for the TURN server; if there is none, of another one. */
@@ -141,13 +180,16 @@ static void set_ready(void) {
     relays.ready.even_ipv4 = ready_address(0, &four[EVEN], &four[EVEN]);
     relays.ready.any_ipv6 = ready_address(1, &six[ANY], &six[EVEN]);
     relays.ready.even_ipv6 = ready_address(1, &six[EVEN], &six[EVEN]);
+    relays.ready.next_ipv4 = next_address(0);
+    relays.ready.next_ipv6 = next_address(1);
 }
 
 void open_spares(tally *mine) {
     uint64_t ready = 0;
     for (int which = 0; which < FAMILIES; which++) {
         for (int wish = 0; wish < WISHES && relays.families[which].is_there; wish++) {
-            bool is_there = relays.families[which].spares[wish].socket >= 0 || open_spare(which, wish);
+            const spare *at = &relays.families[which].spares[wish];
+            bool is_there = (at->socket >= 0 && !lacks_next(at, wish)) || open_spare(which, wish);
             if (is_there) ready++;
             else count(mine, TURN_NO_PORT, 1);
         }
@@ -193,7 +235,7 @@ bool prepare_relays(const endpoints *of) {
     if (!read_range(ports != NULL ? ports : "49152-65535", &relays.least, &relays.most)) return false;
     bool is_any = false;
     for (int which = 0; which < FAMILIES; which++) {
-        for (int wish = 0; wish < WISHES; wish++) relays.families[which].spares[wish].socket = -1;
+        for (int wish = 0; wish < SPARES; wish++) relays.families[which].spares[wish] = (spare){-1, -1, 0};
         if (!find_family(of, which)) return false;
         if (relays.families[which].is_there && !options.checks && !test_family(which)) return false;
         is_any |= relays.families[which].is_there;
@@ -207,7 +249,7 @@ bool begin_relays(void) {
     uint8_t *room = calloc(relays.count * sizeof *relays.all + CACHE_LINE - 1, 1);
     if (room == NULL) return false;
     relays.all = (relay *)(room + -(uintptr_t)room % CACHE_LINE);
-    return true;
+    return begin_reserved();
 }
 
 /* ---- The table ------------------------------------------------------------------------------- */
@@ -229,7 +271,7 @@ relay *find_relay(uint64_t number) {
 /* The spare socket with an address. */
 static spare *find_spare(const stun_types_address *address) {
     spare *spares = relays.families[address->family == 4 ? 0 : 1].spares;
-    for (int wish = 0; wish < WISHES; wish++) {
+    for (int wish = 0; wish < SPARES; wish++) {
         if (spares[wish].socket >= 0 && spares[wish].port == address->port) return &spares[wish];
     }
     return NULL;
@@ -243,7 +285,32 @@ relay *take_spare(const stun_types_address *address, uint64_t number) {
     memset(taken, 0, sizeof *taken);
     *taken = (relay){.number = number, .is_taken = true, .socket = from->socket};
     from->socket = -1;
+    if (from->next >= 0) close(from->next);
+    from->next = -1;
     return taken;
+}
+
+/* ---- Reserved ones --------------------------------------------------------------------------- */
+
+void reserve_next(const stun_types_address *address, uint64_t token, uint64_t now) {
+    spare *from = find_spare(address);
+    if (from == NULL || from->next < 0) return;
+    reserved_socket made = {.token = token, .socket = from->next, .port = (uint16_t)(from->port + 1),
+                            .family = address->family};
+    if (insert_reserved(&made, now)) from->next = -1;
+}
+
+void claim_reserved(uint64_t token) {
+    reserved_socket claimed;
+    if (!remove_reserved(token, &claimed)) return;
+    spare *to = &relays.families[claimed.family == 4 ? 0 : 1].spares[CLAIMED];
+    if (to->socket >= 0) close(to->socket);
+    *to = (spare){claimed.socket, -1, claimed.port};
+}
+
+void close_reserved(uint64_t token) {
+    reserved_socket closed;
+    if (remove_reserved(token, &closed)) close(closed.socket);
 }
 
 void close_relay_socket(relay *closed) {

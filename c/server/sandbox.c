@@ -97,7 +97,7 @@ bool can_filter(void) {
 
 /* Steps that read a call. What they compare is the number of the call, unless arguments were loaded. */
 typedef struct {
-    struct sock_filter steps[160];
+    struct sock_filter steps[256];
     unsigned short count;
 } program;
 
@@ -163,9 +163,9 @@ static void allow_tcp(program *to) {
     allow_option(to, SOL_SOCKET, SO_LINGER);
 }
 
-/* What a worker does that relays: it opens sockets for UDP, and sends by each; and the library takes
- * memory, while it authenticates a request. */
-static void allow_relays(program *to) {
+/* What a worker does that relays: it opens sockets for UDP, sets some options, and sends by each; and the library
+ * takes memory, while it authenticates a request. */
+static void allow_relays(program *to, const socket_option *set, size_t count) {
     enum { UDP = SOCK_DGRAM | SOCK_NONBLOCK | SOCK_CLOEXEC };
     const argument four[] = {{0, AF_INET}, {1, UDP}}, six[] = {{0, AF_INET6}, {1, UDP}};
     const argument memory[] = {{2, PROT_READ | PROT_WRITE}, {3, MAP_PRIVATE | MAP_ANONYMOUS}};
@@ -176,6 +176,7 @@ static void allow_relays(program *to) {
     allow_if(to, SYS_socket, six, 2);
     allow_if(to, SYS_mmap, memory, 2);
     allow_option(to, IPPROTO_IPV6, IPV6_V6ONLY);
+    for (size_t i = 0; i < count; i++) allow_option(to, set[i].level, set[i].name);
 }
 
 static void allow_both(program *to) {
@@ -209,11 +210,11 @@ static bool set_filter(program *made, unsigned long flags) {
 
 /* SPEC_ALLOW: the processor may speculate as before. Older systems would slow the process down,
  * against code in it that reads its memory; unless it relays it holds no secrets. */
-bool filter_calls(int own, bool relays) {
+bool filter_calls(int own, bool relays, const socket_option *set, size_t count) {
     program made;
     begin_filter(&made);
     if (own < 0 || relays) allow_events(&made);
-    if (relays) allow_relays(&made);
+    if (relays) allow_relays(&made, set, count);
     if (own < 0) {
         allow_tcp(&made);
     } else if (!relays) {
@@ -234,9 +235,11 @@ bool filter_log_calls(int log) {
 
 #else
 
-bool filter_calls(int own, bool relays) {
+bool filter_calls(int own, bool relays, const socket_option *set, size_t count) {
     (void)own;
     (void)relays;
+    (void)set;
+    (void)count;
     return false;
 }
 

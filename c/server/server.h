@@ -65,6 +65,10 @@ enum {
     USER_PACKET_RATE,
     LOG_JSON,
     LOG_RATE, /* lines a second */
+    RESERVATIONS, /* ports that are reserved at a time */
+    DONT_FRAGMENT,
+    ICMP,
+    HEADER_FIELDS,
     SETTINGS
 };
 
@@ -224,9 +228,12 @@ int close_off_system(const char *const *folders, size_t count, const char *writt
 
 /* Whether the system filters system calls (seccomp), and whether it does so from now on: then a
  * call that serving doesn't make ends the process. own: the socket by which a worker for UDP sends;
- * -1: it has connections. relays: it opens sockets for UDP, and sends by each. */
+ * -1: it has connections. relays: it opens sockets for UDP, and sends by each, and these options are set. */
+typedef struct {
+    int level, name, value;
+} socket_option;
 bool can_filter(void);
-bool filter_calls(int own, bool relays);
+bool filter_calls(int own, bool relays, const socket_option *set, size_t count);
 
 /* The same for a process that only writes to one file. */
 bool filter_log_calls(int log);
@@ -265,6 +272,8 @@ enum {
     TURN_OVER,    /* over a bandwidth */
     TURN_FAILED,  /* the system refused to send to a peer */
     TURN_NO_PORT, /* no relay socket could be opened */
+    TURN_ICMP,    /* ICMP packets passed to clients */
+    TURN_HOPS,    /* dropped, since the hop limit was used up */
     LOG_LINES, /* of the log of allocations, written and not */
     LOG_DROPPED,
     UDP_DROPPED, /* this and the next three are the supervisor's */
@@ -275,7 +284,7 @@ enum {
 };
 
 /* What there is at the moment; the last three are the supervisor's. */
-enum { ALLOCATIONS_NOW, CONNECTIONS_NOW, SOCKETS_READY, USERS_KNOWN, MEMORY, DRAINING, GAUGES };
+enum { ALLOCATIONS_NOW, CONNECTIONS_NOW, SOCKETS_READY, RESERVED_NOW, USERS_KNOWN, MEMORY, DRAINING, GAUGES };
 
 /* Why requests of clients of TURN are refused. counts.c has the codes. */
 enum {
@@ -362,6 +371,16 @@ typedef union {
     char bytes[CMSG_SPACE(sizeof(struct in6_pktinfo)) + CMSG_SPACE(sizeof(struct in_pktinfo))];
 } target_control;
 
+/* The same, and fields of the IP header: as they are received, in several forms, and as a datagram is sent. */
+typedef union {
+    size_t aligned;
+    char bytes[sizeof(target_control) + 4 * CMSG_SPACE(sizeof(int))];
+} received_control;
+typedef union {
+    size_t aligned;
+    char bytes[sizeof(target_control) + 3 * CMSG_SPACE(sizeof(int))];
+} sent_control;
+
 /* Sends datagrams by a socket, and counts those that the system refuses as `refused`. Returns how many
  * were sent. */
 int send_all(int socket, struct mmsghdr *messages, int messages_count, int flags, tally *mine,
@@ -392,7 +411,42 @@ bool may_answer(rate_table *table, const stun_types_address *source, uint32_t ra
 bool may_pass(rate_table *table, uint64_t user, uint32_t rate, size_t amount, uint64_t now);
 bool may_pass_by(uint64_t *paid_until, uint32_t rate, size_t amount, uint64_t now);
 
-/* ---- TURN (turn.c, relays.c, drain.c, users.c, nonces.c, hmac.c) ------------------------------------------------ */
+/* ---- Fields of the IP header, and ICMP (fields.c, icmp.c) ------------------------------------------------------- */
+
+/* The options of relay sockets, of either family, by the settings. Returns how many there are. */
+enum { MOST_OPTIONS = 8 };
+size_t relay_options(socket_option options[MOST_OPTIONS]);
+
+/* Has a relay socket of a family, 4 or 6, or a listener of AF_INET or AF_INET6, show what the settings want. */
+void set_relay_options(int socket, uint16_t family);
+void set_listener_options(int socket, int family);
+
+/* Takes the fields that a datagram came with out of its control messages, if they are shown; and none. */
+stun_types_ip_fields take_fields(struct msghdr *received);
+stun_types_ip_fields no_fields(void);
+
+/* Whether fields are set of what is relayed; which; and false: nothing is sent. */
+bool are_fields_set(void);
+bool choose_fields(const stun_types_turn_relayed *relayed, stun_types_ip_fields *fields);
+
+/* Appends control messages with these fields to those of a datagram to a family, all in a room. */
+void add_fields(struct msghdr *to, sent_control *room, const stun_types_ip_fields *fields, uint16_t family);
+
+/* Whether what a relay socket of IPv4 sends from now on has the DF bit. */
+void set_whole(int socket, bool is_whole);
+
+/* Reads a few ICMP packets about datagrams of a socket, if it shows them. Returns how many. */
+enum { MOST_ICMP = 16 };
+typedef struct {
+    stun_types_address peer; /* to which the datagram went */
+    stun_types_icmp error;
+} icmp_packet;
+size_t read_icmp(int socket, icmp_packet packets[MOST_ICMP]);
+
+/* Whether sending fails by this error once after an ICMP packet. */
+bool is_icmp_error(int error);
+
+/* ---- TURN (turn.c, relays.c, reserved.c, drain.c, users.c, nonces.c, hmac.c) ------------------------------------ */
 
 /* A client as a process sees it: how it is reached, and its 5-tuple. What the data of a peer needs comes first, in
  * one line of the cache. */
@@ -404,6 +458,7 @@ typedef struct {
     struct sockaddr_storage to; /* over UDP, with the control message that names this machine's address */
     target_control control;
     stun_types_five_tuple tuple;
+    stun_types_ip_fields received; /* what is known of the packet that it sent */
 } turn_client;
 
 /* The name of a user, as a request has it: the first bytes of a USERNAME, or a USERHASH. */
@@ -442,11 +497,11 @@ typedef struct {
 /* How many datagrams of peers, and for peers, wait to be sent at once. */
 enum { HELD = 128 };
 
-/* What a process does with a datagram of `length` bytes for a client; alone: its relay socket had no other.
- * The bytes stay until `flush`, which sends what waits; NULL: they are sent at once, or copied. copies: a
+/* What a process does with a datagram of `length` bytes for a client; alone: its relay socket had no other;
+ * fields: of its IP header, or NULL. The bytes stay until `flush`, which sends what waits; NULL: they are sent at once, or copied. copies: a
  * client's datagram doesn't stay until send_to_peers. */
 typedef struct {
-    void (*deliver)(turn_client *to, uint8_t *bytes, size_t length, bool alone);
+    void (*deliver)(turn_client *to, uint8_t *bytes, size_t length, bool alone, const stun_types_ip_fields *fields);
     void (*flush)(void);
     bool copies;
     void (*changed)(const relay *of, bool begins); /* a relay begins, or ends; NULL: so what */
@@ -479,8 +534,9 @@ turn_outcome take_from_client(const turn_client *from, const uint8_t *datagram, 
                               uint8_t *room, size_t size, size_t *written);
 void send_to_peers(void);
 
-/* Receives a few datagrams from the relay socket of an event. */
+/* Receives a few datagrams from the relay socket of an event, and ICMP packets about those that it sent. */
 void take_from_peers(uint64_t number);
+void take_icmp(uint64_t number);
 
 /* Once a second: ends what has expired, and the relays of users who are no longer listed, and opens sockets
  * that are missing. */
@@ -504,6 +560,25 @@ bool relays_family(uint16_t family);
 /* Opens the spare sockets that are missing. */
 void open_spares(tally *mine);
 const stun_types_turn_ready *ready_sockets(void);
+
+/* Keeps the socket with the next port after a spare one as reserved; makes a reserved one a spare one; and closes
+ * one. */
+void reserve_next(const stun_types_address *address, uint64_t token, uint64_t now);
+void claim_reserved(uint64_t token);
+void close_reserved(uint64_t token);
+
+/* The reserved sockets: memory for them; one more, for 30 seconds from now on, unless there are too many; one less,
+ * unless none has the token; how many there are; and whether the time of one is over. */
+typedef struct {
+    uint64_t token, until;
+    int socket;
+    uint16_t port, family;
+} reserved_socket;
+bool begin_reserved(void);
+bool insert_reserved(const reserved_socket *of, uint64_t now);
+bool remove_reserved(uint64_t token, reserved_socket *removed);
+size_t count_reserved(void);
+bool is_reserved_over(uint64_t now);
 
 /* Makes the spare socket with an address a relay's. NULL: there is none, or the number isn't free. */
 relay *take_spare(const stun_types_address *address, uint64_t number);

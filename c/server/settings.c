@@ -51,6 +51,12 @@ static const struct {
                           "datagrams a second for all of a user; 0: any"},
     [LOG_JSON] = {"log-json", 0, 1, 0, false, "1: lines of allocation-log are JSON"},
     [LOG_RATE] = {"log-rate", 0, 1000000, 1000, false, "lines of allocation-log a second; 0: any"},
+    [RESERVATIONS] = {"reservations", 0, 10000, 0, true,
+                      "ports that EVEN-PORT reserves at a time in one process; 0: none"},
+    [DONT_FRAGMENT] = {"dont-fragment", 0, 1, 0, true, "1: data with DONT-FRAGMENT goes with the DF bit"},
+    [ICMP] = {"icmp", 0, 1, 0, true, "1: clients learn of ICMP packets about what they sent"},
+    [HEADER_FIELDS] = {"header-fields", 0, 1, 0, true,
+                       "1: what is relayed has the DSCP, the ECN and over IPv6 the Hop Limit that it came with"},
 };
 
 static bool is_realm(const char *text) {

@@ -48,6 +48,7 @@ static bool prepare_udp(int number, int family, bool wildcard) {
         set_option(number, IPPROTO_IPV6, IPV6_RECVPKTINFO, 1);
         set_option(number, IPPROTO_IPV6, IPV6_MULTICAST_ALL, 0);
     }
+    set_listener_options(number, family);
     return setsockopt(number, SOL_SOCKET, SO_RCVTIMEO, &second, sizeof second) == 0 &&
            setsockopt(number, SOL_SOCKET, SO_SNDTIMEO, &second, sizeof second) == 0;
 }

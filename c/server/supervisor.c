@@ -156,7 +156,8 @@ static bool filter(const worker *as) {
     int own = as->from != NULL ? as->from->socket : -1;
     if (!can_filter()) return true;
     if (as->kind == FOR_LOG) return filter_log_calls(log_file());
-    return filter_calls(own, setting(TURN) && has_clients(as));
+    socket_option set[MOST_OPTIONS];
+    return filter_calls(own, setting(TURN) && has_clients(as), set, relay_options(set));
 }
 
 /* Runs as a worker, which ends with its supervisor. It prints nothing once it serves: what is then

@@ -218,7 +218,8 @@ static turn_outcome take_message(const connection *of, const uint8_t *message, c
     }
     turn_client client = {.tuple = of->tuple,
                           .connection = (size_t)(of - tcp.connections),
-                          .serial = of->serial};
+                          .serial = of->serial,
+                          .received = no_fields()};
     return take_from_client(&client, message, of->stream.message, room, REPLIES - of->replies_end, written);
 }
 
@@ -425,7 +426,8 @@ static size_t send_first(const connection *of, const uint8_t *message, size_t le
 
 /* Sends a message with a peer's data that came alone, or has it wait for send_fresh, or drops it whole: a
  * client that doesn't read loses what is more than the buffer takes. */
-static void deliver(turn_client *to, uint8_t *message, size_t length, bool alone) {
+static void deliver(turn_client *to, uint8_t *message, size_t length, bool alone, const stun_types_ip_fields *fields) {
+    (void)fields; /* (they are the connection's) */
     connection *of = &tcp.connections[to->connection];
     connection_bytes *bytes = &tcp.bytes[to->connection];
     if (!of->open || of->closing || of->serial != to->serial) return;
@@ -591,6 +593,7 @@ static void close_overdue(void) {
 
 static void serve_event(const struct epoll_event *event) {
     size_t number = (size_t)event->data.u64;
+    if (number >= RELAYS && event->events & EPOLLERR) take_icmp(number);
     if (number >= RELAYS) take_from_peers(number);
     else if (number >= LISTENERS) accept_one(number - LISTENERS);
     else if (tcp.connections[number].open) serve_connection(&tcp.connections[number]);

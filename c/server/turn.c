@@ -28,6 +28,7 @@ static struct {
     user_keys keys;
     stun_types_id ids[IDS]; /* random */
     size_t ids_left;
+    bool sets_fields;
 } turn;
 
 /* Datagrams for peers that wait, and those of peers. */
@@ -36,6 +37,8 @@ static struct {
     struct iovec places[HELD];
     socket_address peers[HELD];
     relay *from[HELD];
+    sent_control controls[HELD];
+    bool are_whole[HELD]; /* over IPv4, with the DF bit */
     int count;
 } outgoing;
 static uint8_t copies[4 * 65536]; /* of their data, if what they came in doesn't stay */
@@ -43,6 +46,7 @@ static size_t copied;
 static struct mmsghdr incoming[FEW];
 static struct iovec incoming_at[FEW];
 static struct sockaddr_storage sources[FEW];
+static received_control incoming_controls[FEW];
 static uint8_t rooms[HELD][PEER_ROOM];
 static size_t held;
 
@@ -51,9 +55,12 @@ static size_t held;
 static void set_limits(void) {
     plan.settings.limits = (stun_types_turn_limits){.relays = setting(ALLOCATIONS),
                                                     .relays_per_user = setting(USER_ALLOCATIONS),
+                                                    .reservations = setting(RESERVATIONS),
                                                     .greatest_lifetime = setting(LIFETIME),
                                                     .ipv4 = relays_family(4),
                                                     .ipv6 = relays_family(6),
+                                                    .dont_fragment = setting(DONT_FRAGMENT) != 0,
+                                                    .icmp = setting(ICMP) != 0,
                                                     .channel_permits = setting(CHANNEL_PERMITS) != 0,
                                                     .old_channels = setting(OLD_CHANNELS) != 0};
 }
@@ -92,6 +99,9 @@ bool prepare_turn(const endpoints *of) {
         if (at->stream || at->workers == 1) continue;
         return complain("processes can't share a socket that was passed: -j 1");
     }
+    if (setting(RESERVATIONS) > 0 && options.processes > 1) {
+        return complain("reservations are known to one process; -j 1 is needed, or reservations 0");
+    }
     if (!prepare_relays(of) || !make_users() || !prepare_nonces()) return false;
     set_settings();
     if (!prepare_peers(of, &plan.settings) || !prepare_drain()) return false;
@@ -107,11 +117,12 @@ void renew_turn(void) {
     set_limits();
 }
 
-size_t turn_files(void) { return setting(TURN) ? setting(ALLOCATIONS) + 16 : 0; }
+size_t turn_files(void) { return setting(TURN) ? setting(ALLOCATIONS) + setting(RESERVATIONS) + 16 : 0; }
 
 bool begin_turn(const turn_process *of) {
     turn.process = *of;
     turn.now = nonce_time(nanoseconds());
+    turn.sets_fields = are_fields_set();
     for (int i = 0; i < HELD; i++) {
         outgoing.messages[i].msg_hdr.msg_name = &outgoing.peers[i].bytes;
         outgoing.messages[i].msg_hdr.msg_iov = &outgoing.places[i];
@@ -138,12 +149,6 @@ static void follow_settings(void) {
         (void)answer; /* (there is a server, and nothing else is wrong) */
     }
     (void)follow_peers(&turn.server, &plan.settings);
-}
-
-void begin_turn_at(uint64_t now) {
-    turn.now = nonce_time(now);
-    follow_settings();
-    held = 0;
 }
 
 /* ---- The end of relays ----------------------------------------------------------------------- */
@@ -196,6 +201,27 @@ void end_relay(uint64_t number) {
     close_ended(stun_types_turn_end(&turn.server, turn.now, number), END_CLOSED);
 }
 
+static void show_reserved(void) { set_gauge(turn.process.mine, RESERVED_NOW, count_reserved()); }
+
+/* Closes the reserved sockets whose time is over, before another call ends them. */
+static void end_reserved(void) {
+    enum { MANY = 64 };
+    uint64_t tokens[MANY];
+    size_t got = 0;
+    end_expired();
+    for (size_t first = 0; (got = stun_types_turn_over(&turn.server, tokens, MANY, first)) > 0; first += got) {
+        for (size_t i = 0; i < got; i++) close_reserved(tokens[i]);
+    }
+    show_reserved();
+}
+
+void begin_turn_at(uint64_t now) {
+    turn.now = nonce_time(now);
+    follow_settings();
+    held = 0;
+    if (is_reserved_over(turn.now)) end_reserved();
+}
+
 /* Ends the relays of users whom the file had and no longer has. */
 static void end_revoked(void) {
     if (!have_users_changed()) return;
@@ -235,6 +261,13 @@ static void withhold(stun_types_turn_datagram *request) {
     (void)answer; /* (as above) */
 }
 
+/* Draws a token for a request that may reserve a port. Without one it can't. */
+static void draw_token(stun_types_turn_datagram *request) {
+    if (getrandom(&request->token, sizeof request->token, 0) == sizeof request->token) return;
+    memset(&request->ready.next_ipv4, 0, sizeof request->ready.next_ipv4);
+    memset(&request->ready.next_ipv6, 0, sizeof request->ready.next_ipv6);
+}
+
 static stun_types_answer pass_on(const turn_client *from, const uint8_t *bytes, size_t length,
                                  bool looked_up, uint8_t *room, size_t size,
                                  stun_types_turn_action *action) {
@@ -243,6 +276,7 @@ static stun_types_answer pass_on(const turn_client *from, const uint8_t *bytes, 
                                          .from = from->tuple,
                                          .ready = *ready_sockets(),
                                          .looked_up = looked_up};
+    if (looked_up && setting(RESERVATIONS) > 0) draw_token(&datagram);
     bool refreshes = looked_up && is_request(bytes, length, REFRESH);
     if (refreshes) end_expired();
     if (looked_up && is_draining()) withhold(&datagram);
@@ -325,6 +359,14 @@ static void keep_socket(const turn_client *of, const stun_types_turn_opened *ope
     log_open(taken);
 }
 
+/* Keeps the socket that a request reserved, or gives it the one that it claims, before keep_socket. */
+static void keep_reserved(const stun_types_turn_action *action) {
+    const stun_types_turn_opened *opened = action->ipv4.took ? &action->ipv4 : &action->ipv6;
+    if (action->reserves && opened->took) reserve_next(&opened->relayed, action->reserved, turn.now);
+    if (action->claims && opened->took) claim_reserved(action->claimed);
+    if (action->reserves || action->claims) show_reserved();
+}
+
 /* Whether a datagram may pass by the packet rates of an allocation and of its user. */
 static bool may_count(relay *by) {
     uint32_t rate = setting(PACKET_RATE), of_user = setting(USER_PACKET_RATE);
@@ -346,13 +388,35 @@ static bool may_relay(relay *by, size_t octets) {
     return may;
 }
 
-/* Has data wait to be sent to a peer. */
-static void send_later(const stun_types_turn_action *action, const uint8_t *datagram) {
+/* Has a datagram for a peer have the fields that it is to have. False: its hop limit is used up. */
+static bool set_fields(const turn_client *of, const stun_types_turn_action *action, int at) {
+    struct msghdr *to = &outgoing.messages[at].msg_hdr;
+    stun_types_turn_relayed relayed = {.length = action->length,
+                                       .stream = of->tuple.stream,
+                                       .from = of->tuple.client.family,
+                                       .to = action->peer.family,
+                                       .dont_fragment = action->dont_fragment != 0,
+                                       .received = of->received};
+    stun_types_ip_fields fields;
+    to->msg_control = NULL;
+    to->msg_controllen = 0;
+    if (!choose_fields(&relayed, &fields)) {
+        count(turn.process.mine, TURN_HOPS, 1);
+        return false;
+    }
+    outgoing.are_whole[at] = relayed.to == 4 && fields.dont_fragment == 1;
+    add_fields(to, &outgoing.controls[at], &fields, relayed.to);
+    return true;
+}
+
+/* Has data of a client wait to be sent to a peer. */
+static void send_later(const turn_client *of, const stun_types_turn_action *action, const uint8_t *datagram) {
     relay *from = find_relay(action->relay);
     /* (no channel is bound to the server itself) */
     if (datagram[0] < CHANNELS && is_server(&action->peer)) return;
     if (from == NULL || from->socket < 0 || !may_relay(from, action->length)) return;
     if (outgoing.count == HELD || copied + action->length > sizeof copies) send_to_peers();
+    if (turn.sets_fields && !set_fields(of, action, outgoing.count)) return;
     int at = outgoing.count++;
     const uint8_t *data = datagram + action->at;
     if (turn.process.copies) {
@@ -373,8 +437,12 @@ static void send_later(const stun_types_turn_action *action, const uint8_t *data
 void send_to_peers(void) {
     for (int at = 0, end; at < outgoing.count; at = end) {
         const relay *by = outgoing.from[at];
-        for (end = at + 1; end < outgoing.count && outgoing.from[end] == by; end++) {}
+        bool are_whole = outgoing.are_whole[at];
+        end = at + 1;
+        while (end < outgoing.count && outgoing.from[end] == by && outgoing.are_whole[end] == are_whole) end++;
+        if (are_whole) set_whole(by->socket, true);
         (void)send_bundled(by->socket, outgoing.messages + at, end - at, turn.process.mine, TURN_FAILED);
+        if (are_whole) set_whole(by->socket, false);
     }
     outgoing.count = 0;
     copied = 0;
@@ -411,11 +479,12 @@ turn_outcome take_from_client(const turn_client *from, const uint8_t *datagram, 
     stun_types_answer answer = pass_on(from, datagram, length, false, room, size, &action);
     bool is_signed = answer.code == STUN_TYPES_OK && action.kind == STUN_TYPES_TURN_NEEDS_KEY;
     if (is_signed) answer = pass_on_signed(from, datagram, length, room, size, &action);
+    keep_reserved(&action);
     keep_socket(from, &action.ipv4);
     keep_socket(from, &action.ipv6);
     if (answer.code != STUN_TYPES_OK) return TURN_NOTHING_DUE;
     if (action.kind == STUN_TYPES_TURN_TO_PEER) {
-        send_later(&action, datagram);
+        send_later(from, &action, datagram);
         return TURN_RELAYED;
     }
     if (action.kind != STUN_TYPES_TURN_RESPONSE) return TURN_NOTHING_DUE;
@@ -441,12 +510,27 @@ static const stun_types_id *next_id(void) {
     return &turn.ids[turn.ids_left > 0 ? turn.ids_left - 1 : 0];
 }
 
+/* Which fields a datagram for a client over UDP is to have that brings a peer's data. False: the hop limit is used
+ * up. */
+static bool fields_for(const relay *by, struct msghdr *received, size_t length, stun_types_ip_fields *fields) {
+    const stun_types_five_tuple *to = &by->client.tuple;
+    stun_types_turn_relayed relayed = {.length = length,
+                                       .from = by->relayed.family,
+                                       .to = to->client.family,
+                                       .received = take_fields(received)};
+    bool is_sent = choose_fields(&relayed, fields);
+    if (!is_sent) count(turn.process.mine, TURN_HOPS, 1);
+    return is_sent;
+}
+
 /* Delivers the data of a peer, which was received in a room after the place of a head. */
-static void relay_data(relay *by, const struct sockaddr_storage *source, uint8_t *room, size_t length,
-                       bool alone) {
+static void relay_data(relay *by, struct mmsghdr *received, uint8_t *room, bool alone) {
     stun_types_address peer;
     stun_types_turn_delivery delivery;
-    if (!address_of(source, &peer)) return;
+    stun_types_ip_fields fields;
+    size_t length = received->msg_len;
+    bool has_fields = turn.sets_fields && by->client.tuple.stream == 0;
+    if (!address_of(received->msg_hdr.msg_name, &peer)) return;
     stun_types_answer answer =
         stun_types_turn_peer(&turn.server, turn.now, &peer, by->number, length, next_id(), room,
                              STUN_TYPES_TURN_HEAD, &delivery);
@@ -457,10 +541,12 @@ static void relay_data(relay *by, const struct sockaddr_storage *source, uint8_t
     }
     close_ended(delivery.ended, END_EXPIRED); /* (not this one, which is live) */
     if (!may_relay(by, length)) return;
+    size_t whole = delivery.head_length + length + delivery.padding;
+    if (has_fields && !fields_for(by, &received->msg_hdr, whole, &fields)) return;
     if (delivery.head_length > 4 && turn.ids_left > 0) turn.ids_left--;
     memset(room + STUN_TYPES_TURN_HEAD + length, 0, delivery.padding);
-    turn.process.deliver(&by->client, room + STUN_TYPES_TURN_HEAD - delivery.head_length,
-                         delivery.head_length + length + delivery.padding, alone);
+    turn.process.deliver(&by->client, room + STUN_TYPES_TURN_HEAD - delivery.head_length, whole, alone,
+                         has_fields ? &fields : NULL);
     by->to_client.datagrams++;
     by->to_client.octets += length;
     count(turn.process.mine, TURN_TO_CLIENT, 1);
@@ -473,6 +559,10 @@ static size_t receive(relay *by) {
     unsigned asked = by->asked > 0 ? by->asked : 1;
     for (size_t i = 0; i < asked; i++) {
         incoming[i].msg_hdr.msg_namelen = sizeof sources[i];
+        if (turn.sets_fields) {
+            incoming[i].msg_hdr.msg_control = &incoming_controls[i];
+            incoming[i].msg_hdr.msg_controllen = sizeof incoming_controls[i];
+        }
         incoming_at[i].iov_base = rooms[held + i] + STUN_TYPES_TURN_HEAD;
         incoming_at[i].iov_len = 65536;
     }
@@ -492,7 +582,39 @@ void take_from_peers(uint64_t number) {
     }
     size_t got = receive(by);
     for (size_t i = 0; i < got; i++) {
-        relay_data(by, &sources[i], rooms[held + i], incoming[i].msg_len, got == 1);
+        relay_data(by, &incoming[i], rooms[held + i], got == 1);
     }
     if (turn.process.flush != NULL) held += got; /* (otherwise their rooms are free again) */
+}
+
+/* Passes an ICMP packet to a client, in a room. Returns whether the room is in use. */
+static bool relay_icmp(relay *by, const icmp_packet *packet, uint8_t *room) {
+    stun_types_turn_notice notice;
+    stun_types_answer answer =
+        stun_types_turn_icmp(&turn.server, turn.now, &packet->peer, by->number, &packet->error, next_id(), room,
+                             PEER_ROOM, &notice);
+    close_ended(notice.ended, END_EXPIRED);
+    if (answer.code != STUN_TYPES_OK || !notice.sends) {
+        count(turn.process.mine, TURN_DROPPED, 1);
+        return false;
+    }
+    if (!may_relay(by, notice.length)) return false;
+    if (turn.ids_left > 0) turn.ids_left--;
+    turn.process.deliver(&by->client, room, notice.length, true, NULL);
+    count(turn.process.mine, TURN_ICMP, 1);
+    return turn.process.flush != NULL;
+}
+
+void take_icmp(uint64_t number) {
+    icmp_packet packets[MOST_ICMP];
+    relay *by = relay_at((size_t)(number - turn.process.first));
+    if (by == NULL || by->socket < 0) return;
+    size_t got = read_icmp(by->socket, packets);
+    for (size_t i = 0; i < got; i++) {
+        if (held == HELD) {
+            turn.process.flush();
+            held = 0;
+        }
+        if (relay_icmp(by, &packets[i], rooms[held])) held++;
+    }
 }

@@ -23,8 +23,9 @@ static uint8_t datagrams[BATCH][DATAGRAM_ROOM], reply_rooms[BATCH][REPLY_ROOM];
 
 /* To which of this machine's addresses a datagram was sent: the reply comes from there. The system
  * says so if the socket stands for several addresses. */
-static target_control targets[BATCH];
-static bool many_targets;
+static received_control targets[BATCH];
+static bool many_targets, has_control; /* has_control: that, or fields of the IP header */
+static sent_control sent_controls[TO_CLIENTS];
 
 static struct {
     const endpoint *from;
@@ -38,8 +39,8 @@ static void make_ready(int i) {
     struct msghdr *header = &received[i].msg_hdr;
     header->msg_name = &sources[i];
     header->msg_namelen = sizeof sources[i];
-    header->msg_control = many_targets ? &targets[i] : NULL;
-    header->msg_controllen = many_targets ? sizeof targets[i] : 0;
+    header->msg_control = has_control ? &targets[i] : NULL;
+    header->msg_controllen = has_control ? sizeof targets[i] : 0;
     header->msg_flags = 0;
 }
 
@@ -178,9 +179,10 @@ static stun_types_address target_of(const struct msghdr *header) {
 
 /* Who has sent datagram i. */
 static turn_client client_of(int i, const stun_types_address *source) {
-    const struct msghdr *header = &received[i].msg_hdr;
+    struct msghdr *header = &received[i].msg_hdr;
     turn_client client;
     memset(&client, 0, sizeof client);
+    client.received = take_fields(header);
     client.tuple.client = *source;
     client.tuple.server = target_of(header);
     client.to = sources[i];
@@ -221,12 +223,13 @@ static void relay_datagram(int i, uint32_t rate, uint64_t now) {
     address_reply(&received[i].msg_hdr, reply_rooms[i], length);
 }
 
-static void deliver(turn_client *to, uint8_t *bytes, size_t length, bool alone) {
+static void deliver(turn_client *to, uint8_t *bytes, size_t length, bool alone, const stun_types_ip_fields *fields) {
     (void)alone;
-    const struct msghdr header = {.msg_name = &to->to,
+    struct msghdr header = {.msg_name = &to->to,
                                   .msg_namelen = to->to_length,
                                   .msg_control = to->control_length > 0 ? &to->control : NULL,
                                   .msg_controllen = to->control_length};
+    if (fields != NULL) add_fields(&header, &sent_controls[udp.owed], fields, to->tuple.client.family);
     address_reply(&header, bytes, length);
 }
 
@@ -245,6 +248,7 @@ static uint64_t serve_turn(void) {
     begin_turn_at(now);
     for (int i = 0; i < ready; i++) {
         if (events[i].data.u64 != 0) {
+            if (events[i].events & EPOLLERR) take_icmp(events[i].data.u64);
             take_from_peers(events[i].data.u64);
             continue;
         }
@@ -284,6 +288,7 @@ static bool begin_turns(void) {
 
 bool begin_udp(const endpoint *from, rate_table *rates, tally *mine) {
     many_targets = from->wildcard;
+    has_control = many_targets || (setting(TURN) && setting(HEADER_FIELDS));
     udp.from = from;
     udp.limits = rates;
     udp.mine = mine;

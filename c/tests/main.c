@@ -14,7 +14,7 @@ static const struct {
     {"numbers", test_numbers}, {"reading", test_reading}, {"keys", test_keys},
     {"hmacs", test_hmacs}, {"writing", test_writing}, {"servers", test_servers}, {"clients", test_clients},
     {"streams", test_streams}, {"nulls", test_nulls}, {"calls", test_calls},
-    {"overlaps", test_overlaps}, {"turn", test_turn}, {"turn_answers", test_turn_answers},
+    {"overlaps", test_overlaps}, {"turn", test_turn}, {"turn_answers", test_turn_answers}, {"turn_more", test_turn_more},
     {"allocations", test_allocations}, {"ice", test_ice},
 };
 

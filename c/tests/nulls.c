@@ -15,7 +15,7 @@ static const stun_types_id id = {{0}};
 #define NO_VALUE PLAIN(STUN_TYPES_BAD_ARGUMENT)
 #define AN_ADDRESS {{192, 0, 2, 1}, 32853, 4}
 #define NO_ADDRESS {{0}, 0, 0}
-#define NOT_READY {NO_ADDRESS, NO_ADDRESS, NO_ADDRESS, NO_ADDRESS}
+#define NOT_READY {NO_ADDRESS, NO_ADDRESS, NO_ADDRESS, NO_ADDRESS, NO_ADDRESS, NO_ADDRESS}
 static const stun_types_address address = AN_ADDRESS;
 static const stun_types_covered no_covered = {STUN_TYPES_INTEGRITY_SHA1, {0}, 0};
 static const stun_types_hmac no_hmac = {STUN_TYPES_INTEGRITY_SHA1, {0}};
@@ -246,11 +246,13 @@ static void test_clients_and_streams(void) {
 static void test_turn_servers(void) {
     static const stun_types_turn none = STUN_TYPES_TURN_INIT;
     static const stun_types_turn_settings settings;
-    static const stun_types_turn_datagram datagram = {NULL, 0, {AN_ADDRESS, AN_ADDRESS, 0}, NOT_READY, 0, 0};
+    static const stun_types_turn_datagram datagram = {NULL, 0, {AN_ADDRESS, AN_ADDRESS, 0}, NOT_READY, 0, 0, 0};
     stun_types_turn_datagram *full = NEW(stun_types_turn_datagram);
     stun_types_turn *server = NEW(stun_types_turn);
     stun_types_turn_action *action = NEW(stun_types_turn_action);
     stun_types_turn_delivery *delivery = NEW(stun_types_turn_delivery);
+    stun_types_turn_notice *notice = NEW(stun_types_turn_notice);
+    static const stun_types_icmp error = {0, 3, 3};
     stun_types_key *key = password_key(text("a secret of the server"));
     const slice request = hex(REQUEST);
     *server = none;
@@ -267,7 +269,10 @@ static void test_turn_servers(void) {
             LENGTHS(STUN_TYPES_TOO_SMALL, 48, 0));
     ANSWERS(stun_types_turn_peer(server, 0, &address, 0, 0, &id, NULL, 0, delivery),
             LENGTHS(STUN_TYPES_TOO_SMALL, STUN_TYPES_TURN_HEAD, 0));
+    ANSWERS(stun_types_turn_icmp(server, 0, &address, 0, &error, &id, NULL, 0, notice),
+            LENGTHS(STUN_TYPES_TOO_SMALL, STUN_TYPES_TURN_NOTICE, 0));
     CHECK(stun_types_turn_ended(server, NULL, 0, 0) == 0);
+    CHECK(stun_types_turn_over(server, NULL, 0, 0) == 0);
     heap_allow(false);
     stun_types_turn_free(server);
     stun_types_turns_free(NULL, 0);

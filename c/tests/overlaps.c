@@ -157,6 +157,10 @@ CALL(turn_set_alternate) { REPORT(stun_types_turn_set_alternate(at[0], at[1])); 
 CALL(turn_client) {
     REPORT(stun_types_turn_client(at[0], 0, at[1], at[3], at[4], at[5], 60, at[6]));
 }
+CALL(turn_icmp) {
+    REPORT(stun_types_turn_icmp(at[0], 0, at[1], 1, at[2], at[3], at[4], STUN_TYPES_TURN_NOTICE, at[5]));
+}
+CALL(turn_fields) { REPORT(stun_types_turn_fields(at[0], at[1])); }
 CALL(turn_peer) {
     REPORT(stun_types_turn_peer(at[0], 0, at[1], 1, 3, at[2], at[3], STUN_TYPES_TURN_HEAD, at[4]));
 }
@@ -397,6 +401,11 @@ static const guarded_call calls[] = {
      {TURN_SERVER, GIVEN(sizeof(stun_types_turn_datagram), "00*34 0400 00*18 0400"),
       BYTES(20, HEADER), GIVEN(sizeof(stun_types_key), ""), GIVEN(sizeof(stun_types_key), ""),
       ROOM(60, ""), ZEROED(sizeof(stun_types_turn_action))}},
+    {"stun_types_turn_icmp", turn_icmp,
+     {TURN_SERVER, ADDRESS, GIVEN(sizeof(stun_types_icmp), ""), BYTES(12, ""), ROOM(STUN_TYPES_TURN_NOTICE, ""),
+      ZEROED(sizeof(stun_types_turn_notice))}},
+    {"stun_types_turn_fields", turn_fields,
+     {GIVEN(sizeof(stun_types_turn_relayed), "00*10 0400 0400"), ZEROED(sizeof(stun_types_turn_sent))}},
     {"stun_types_turn_peer", turn_peer,
      {TURN_SERVER, ADDRESS, BYTES(sizeof(stun_types_id), ""), ROOM(STUN_TYPES_TURN_HEAD, ""),
       ZEROED(sizeof(stun_types_turn_delivery))}},
@@ -632,6 +641,13 @@ static void test_ends(void) {
         CHECK(stun_types_turn_ended(at, numbers + first, 2, 0) == 0);
         CHECK(memcmp(at, &before, sizeof before) == 0 && is_untouched(numbers, 16)
               && is_untouched(numbers + 4, 16));
+    }
+    row("overlaps", "stun_types_turn_over");
+    for (first = 1; first <= 3; first++) {
+        memset(numbers, FILL, sizeof numbers);
+        *at = before;
+        CHECK(stun_types_turn_over(at, numbers + first, 2, 0) == 0);
+        CHECK(memcmp(at, &before, sizeof before) == 0 && is_untouched(numbers, 16));
     }
     row("overlaps", "stun_types_turn_end_user");
     CHECK(stun_types_turn_end_user(at, 600 * SECOND, (const void *)(numbers + 2)) == 0);

@@ -12,6 +12,7 @@ void test_clients(void);
 void test_streams(void);
 void test_turn(void);
 void test_turn_answers(void);
+void test_turn_more(void);
 void test_allocations(void);
 void test_ice(void);
 void test_nulls(void);

@@ -21,6 +21,8 @@ static void ipv6_for_ipv4(void) { site.ready->any_ipv4.family = 6; }
 static void even_ipv6_for_ipv4(void) { site.ready->even_ipv4.family = 6; }
 static void ipv4_for_ipv6(void) { site.ready->any_ipv6.family = 4; }
 static void even_ipv4_for_ipv6(void) { site.ready->even_ipv6.family = 4; }
+static void next_ipv6_for_ipv4(void) { site.ready->next_ipv4.family = 6; }
+static void next_ipv4_for_ipv6(void) { site.ready->next_ipv6.family = 4; }
 
 static const struct {
     const char *name;
@@ -38,6 +40,8 @@ static const struct {
     {"an even IPv6 address for IPv4", even_ipv6_for_ipv4},
     {"an IPv4 address for IPv6", ipv4_for_ipv6},
     {"an even IPv4 address for IPv6", even_ipv4_for_ipv6},
+    {"an IPv6 address to be reserved for IPv4", next_ipv6_for_ipv4},
+    {"an IPv4 address to be reserved for IPv6", next_ipv4_for_ipv6},
 };
 
 static void test_arguments(void) {

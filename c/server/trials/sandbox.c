@@ -92,6 +92,16 @@ static int set_linger(void) {
                                                                                               : -1;
 }
 
+/* Sets an option of relay sockets. */
+static int set_of_ip(int name) {
+    int on = 1;
+    return setsockopt(OWN, IPPROTO_IP, name, &on, sizeof on) == -1 && errno == EBADF ? 0 : -1;
+}
+
+static int set_fragments(void) { return set_of_ip(IP_MTU_DISCOVER); }
+
+static int set_errors(void) { return set_of_ip(IP_RECVERR); }
+
 static int close_none(void) { return close(-1) == -1 && errno == EBADF ? 0 : -1; }
 
 /* The last are what a worker does: over UDP, over TCP, and either. */
@@ -106,12 +116,16 @@ static const struct {
     {"start-program", start_program}, {"signal-parent", signal_parent},
     {"send-by-other", send_by_other}, {"send-to", send_to},
     {"end-listener", end_listener},   {"reuse-address", reuse_address},
-    {"set-congestion", set_congestion}, {"send-by-own", send_by_own},
+    {"set-congestion", set_congestion}, {"set-errors", set_errors},
+    {"set-fragments", set_fragments}, {"send-by-own", send_by_own},
     {"send-back", send_back},         {"set-linger", set_linger},
     {"close", close_none},
 };
 
 enum { NO_SANDBOX, LANDLOCK, UDP, TCP, UDP_RELAY, TCP_RELAY };
+
+/* The option that a relay may set. */
+static const socket_option dont_fragment = {IPPROTO_IP, IP_MTU_DISCOVER, IP_PMTUDISC_DO};
 
 /* Makes an attempt in a process of its own. Returns its error, or below 0 the signal that ended
  * that. */
@@ -121,7 +135,7 @@ static int outcome(int sandbox, int (*try)(void)) {
     if (child == 0) {
         bool udp = sandbox == UDP || sandbox == UDP_RELAY;
         if (sandbox >= LANDLOCK) close_off_system(NULL, 0, NULL);
-        if (sandbox >= UDP) filter_calls(udp ? OWN : -1, sandbox >= UDP_RELAY);
+        if (sandbox >= UDP) filter_calls(udp ? OWN : -1, sandbox >= UDP_RELAY, &dont_fragment, 1);
         _exit(try() >= 0 ? 0 : errno);
     }
     waitpid(child, &status, 0);

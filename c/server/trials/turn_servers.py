@@ -27,6 +27,7 @@ class Settings:
     timed: bool = False  # credentials are valid for a time
     old_channels: bool = False
     channel_permits: bool = False
+    extensions: bool = False  # reserved ports, DONT-FRAGMENT, ICMP and fields of the IP header, which coturn has
     nonce_seconds: int = 0  # that a nonce is valid; 0: as long as the server likes
     port: str = ""  # that of a server before this one; otherwise any
 
@@ -97,6 +98,9 @@ def this_server(program, host, _, settings):
     """Starts this server. Yields something with its port."""
     options = ["-o", f"old-channels={int(settings.old_channels)}", "-o", "user-allocations=100",
                "-o", f"channel-permits={int(settings.channel_permits)}"]
+    if settings.extensions:
+        options += [word for it in ("reservations=100", "dont-fragment=1", "icmp=1", "header-fields=1")
+                    for word in ("-o", it)]
     if settings.nonce_seconds:
         options += ["-o", f"nonce-lifetime={settings.nonce_seconds}"]
     options += [word for it in NETWORKS for word in ("-o", f"allow={it}")]

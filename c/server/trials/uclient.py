@@ -49,11 +49,12 @@ def echoed(bench, *flags):
     IPv4 and IPv6 at once."""
     if not shutil.which("turnutils_uclient") or not shutil.which("turnutils_peer"):
         raise Skipped("it needs turnutils_uclient and turnutils_peer, of coturn")
-    settings = Settings(old_channels="-s" not in flags)  # (its channels are random ones of RFC 5766)
+    # (its channels are random ones of RFC 5766, and without -c each of its clients reserves a port)
+    settings = Settings(old_channels="-s" not in flags, extensions=True)
     name, password = settings.credentials()
     both = []
     with bench.server(settings) as server, echoing(bench.hosts.right):
-        common = ["turnutils_uclient", "-c", *flags, "-m", CLIENTS, "-n", MESSAGES, "-l", LENGTH,
+        common = ["turnutils_uclient", *flags, "-m", CLIENTS, "-n", MESSAGES, "-l", LENGTH,
                   "-z", INTERVAL, "-u", name, "-w", password, "-p", server.port, "-r", PEER_PORT]
         try:
             for words in [["-e", RIGHT[0], SERVER[0]], ["-x", "-e", RIGHT[1], SERVER[1]]]:

@@ -201,8 +201,8 @@ def sandbox(programs):
     lines = [line.split() for line in out.splitlines()]
     version, can_filter = int(lines[0][1]), lines[0][3] == "1"
     met = {(kind, name): int(error) for kind, name, error in lines[1:]}
-    check(len(met) == 6 * 19, out)
-    relays = {"make-relay", "take-memory", "send-by-own", "send-by-other", "send-to", "send-back", "close"}
+    check(len(met) == 6 * 21, out)
+    relays = {"make-relay", "take-memory", "set-fragments", "send-by-own", "send-by-other", "send-to", "send-back", "close"}
     allowed = {"udp": {"send-by-own", "close"}, "tcp": {"send-back", "set-linger", "close"},
                "udp-relay": relays, "tcp-relay": relays | {"set-linger"}}
     closed = {"open-file", "make-file", "start-program"} if version >= 1 else set()

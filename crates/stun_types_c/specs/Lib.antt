@@ -40,6 +40,8 @@ pub mod TurnMaking
 pub mod TurnChanges
 pub mod TurnClients
 pub mod TurnPeers
+pub mod TurnIcmp
+pub mod TurnFields
 pub mod TurnEnding
 pub mod AllocationCodes
 pub mod AllocationMarks

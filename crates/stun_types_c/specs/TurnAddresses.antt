@@ -4,6 +4,7 @@ use Rattle.std.specs.Option.{option_map}
 use Rattle.stun_endpoints.specs.declared.endpoints.Endpoint.{Endpoint}
 use Rattle.stun_endpoints.specs.declared.endpoints.FiveTuple.{FiveTuple}
 use Rattle.stun_endpoints.specs.Conversions.{socket_of}
+use Rattle.turn_server.specs.declared.sockets.Pair.{Pair}
 use Rattle.turn_server.specs.declared.sockets.Ready.{Ready}
 use Rattle.turn_server.specs.declared.sockets.Sockets.{Sockets}
 use Rattle.stun_types_c.specs.declared.address.Address.{Address}
@@ -32,17 +33,23 @@ ready_named family address =
     if address.family == 0 then Some None else (
     if address.family == family then option_map Some (endpoint_named address) else None)
 
--- the sockets of a family: none are a pair
-abbrev pub family_named : (family : ℕ) → (any even : Address) → Option Ready
-family_named family any even =
-    option_and_then (λ any. option_map (λ even. record { any = any; even = even; pair = None })
-    (ready_named family even)) (ready_named family any)
+-- the sockets of a request that reserves, if there are both: the one with an even port, and the next
+abbrev pub pair_of : (even next : Option Endpoint) → Option Pair
+pair_of even next = option_and_then (λ even. option_map (λ next. record { even = even; next = next }) next) even
 
-abbrev pub sockets_named : CTurnReady → Option Sockets
-sockets_named ready =
-    option_and_then (λ ipv4. option_map (λ ipv6. record { ipv4 = ipv4; ipv6 = ipv6; token = 0 })
-    (family_named 6 ready.any_ipv6 ready.even_ipv6))
-    (family_named 4 ready.any_ipv4 ready.even_ipv4)
+-- the sockets of a family
+abbrev pub family_named : (family : ℕ) → (any even next : Address) → Option Ready
+family_named family any even next =
+    option_and_then (λ any. option_and_then (λ even. option_map (λ next.
+    record { any = any; even = even; pair = pair_of even next })
+    (ready_named family next)) (ready_named family even)) (ready_named family any)
+
+-- the sockets, and the token of a reservation
+abbrev pub sockets_named : CTurnReady → (token : ℕ) → Option Sockets
+sockets_named ready token =
+    option_and_then (λ ipv4. option_map (λ ipv6. record { ipv4 = ipv4; ipv6 = ipv6; token = token })
+    (family_named 6 ready.any_ipv6 ready.even_ipv6 ready.next_ipv6))
+    (family_named 4 ready.any_ipv4 ready.even_ipv4 ready.next_ipv4)
 
 -- C's form holds a 5-tuple
 pub record HoldsTuple (tuple : FiveTuple) (held : CFiveTuple) : Type 0 where

@@ -1,5 +1,5 @@
 -- What a TURN server does for a client's datagram, as C sees it.
-use Rattle.std.specs.Prelude.{◌≡◌, ◌⊎◌, ℕ, Bool, true, false, not, ◌&&◌, List, length, Option, None, Some, MatchOption, MatchResult, IsSomeAnd, unwrap_or, ◌==◌, if◌then◌else◌}
+use Rattle.std.specs.Prelude.{◌≡◌, ◌⊎◌, ℕ, Bool, true, false, not, ◌&&◌, List, length, Option, None, Some, MatchOption, MatchResult, IsSomeAnd, is_some, unwrap_or, ◌==◌, if◌then◌else◌}
 use Rattle.std.specs.Option.{option_zip}
 use Rattle.stun_keys.specs.declared.keys.integrity_key.IntegrityKey.{IntegrityKey}
 use Rattle.stun_values.specs.declared.algorithm.PasswordAlgorithmValue.{PasswordAlgorithmValue}
@@ -49,6 +49,10 @@ of_kind kind ended = record {
   kind = kind;
   code = 0;
   dont_fragment = 0;
+  reserved = 0;
+  claimed = 0;
+  reserves = 0;
+  claims = 0;
 }
 
 abbrev pub nothing : CTurnAction
@@ -70,11 +74,17 @@ sending relay peer dont_fragment at length ended = record {
   kind = 2;
   code = 0;
   dont_fragment = flag dont_fragment;
+  reserved = 0;
+  claimed = 0;
+  reserves = 0;
+  claims = 0;
 }
 
--- a response of some bytes is sent, or none; and these sockets were taken
-abbrev pub responding : (ipv4 ipv6 : COpened) → (kind code length ended : ℕ) → CTurnAction
-responding ipv4 ipv6 kind code length ended = record {
+-- a response of some bytes is sent, or none; and these sockets were taken, and reserved or claimed by these
+-- tokens
+abbrev pub responding : (ipv4 ipv6 : COpened) → (reserved claimed : Option ℕ) → (kind code length ended : ℕ)
+    → CTurnAction
+responding ipv4 ipv6 reserved claimed kind code length ended = record {
   relay = 0;
   at = 0;
   length = length;
@@ -85,6 +95,10 @@ responding ipv4 ipv6 kind code length ended = record {
   kind = kind;
   code = code;
   dont_fragment = 0;
+  reserved = unwrap_or reserved 0;
+  claimed = unwrap_or claimed 0;
+  reserves = flag (is_some reserved);
+  claims = flag (is_some claimed);
 }
 
 -- the socket of a relayed address that was opened, or none
@@ -93,14 +107,16 @@ IsOpened None held = held ≡ none_opened
 IsOpened (Some opened) held =
     Holds (socket_of opened.relayed) held.relayed × ((held.relay ≡ opened.number) × (held.took ≡ 1))
 
--- a response is sent, or the call returns why it isn't written. Either way C has the sockets that were taken
+-- a response is sent, or the call returns why it isn't written. Either way C has the sockets that were taken,
+-- and the tokens
 pub record IsSent (response : Response) (ended : ℕ) (result : CResult) (out : CTurnAction) : Type 0 where
   pub ipv4 : IsOpened response.opened.ipv4 out.ipv4
   pub ipv6 : IsOpened response.opened.ipv6 out.ipv6
   pub sent : MatchResult response.written
-      (λ length. (result ≡ plain OK)
-      × (out ≡ responding out.ipv4 out.ipv6 1 (unwrap_or response.code 0) length ended))
-      (λ e. (result ≡ write_result e) × (out ≡ responding out.ipv4 out.ipv6 0 0 0 ended))
+      (λ length. (result ≡ plain OK) × (out ≡ responding out.ipv4 out.ipv6 response.reserved response.claimed
+      1 (unwrap_or response.code 0) length ended))
+      (λ e. (result ≡ write_result e)
+      × (out ≡ responding out.ipv4 out.ipv6 response.reserved response.claimed 0 0 0 ended))
 
 -- what is done for an action, of a call that ended so many relayed addresses
 abbrev pub IsInC : Action → (ended : ℕ) → CResult → CTurnAction → Type 0
@@ -167,11 +183,11 @@ abbrev pub keys_in_c : (md5 sha256 : Option IntegrityKey) → Who → List ℕ �
     → Option UserKey
 keys_in_c md5 sha256 user realm = long_term_key_of (held_of md5) (held_of sha256)
 
--- the 5-tuple and the sockets that C passes, if `reserved` is 0
+-- the 5-tuple, the sockets and the token that C passes, if `reserved` is 0
 abbrev pub named_in : CTurnDatagram → Option (FiveTuple × Sockets)
 named_in datagram =
     if datagram.reserved == 0
-    then option_zip (tuple_named datagram.from) (sockets_named datagram.ready) else None
+    then option_zip (tuple_named datagram.from) (sockets_named datagram.ready datagram.token) else None
 
 abbrev pub TakesDatagram : (now : ℕ) → CTurnDatagram → (md5 sha256 : Option IntegrityKey) → CResult
     → Left → Left → Type 0

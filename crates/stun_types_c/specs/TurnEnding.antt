@@ -51,6 +51,12 @@ abbrev pub ListsEnded : (first : ℕ) → (before : List ℕ) → (count : ℕ) 
 ListsEnded first before count after old new =
     Looks old new ((count ≡ 0) × (after ≡ before)) (λ core. Lists core.server.ended first before count after)
 
+-- the tokens of the reserved sockets that expired
+abbrev pub ListsOver : (first : ℕ) → (before : List ℕ) → (count : ℕ) → (after : List ℕ)
+    → (old new : Option TurnCore) → Type 0
+ListsOver first before count after old new =
+    Looks old new ((count ≡ 0) × (after ≡ before)) (λ core. Lists core.server.over first before count after)
+
 -- ---- What there is
 
 -- the greatest number of 64 bits

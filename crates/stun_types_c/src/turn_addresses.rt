@@ -1,12 +1,12 @@
 //! Where datagrams of TURN come from and go to, in C's form.
 
 ghost use Rattle.std.specs.Prelude.{◌≡◌, true, false, None, Some};
-ghost use Rattle.stun_types_c.specs.TurnAddresses.{transport_named, tuple_named, ready_named, family_named, sockets_named, HoldsTuple};
+ghost use Rattle.stun_types_c.specs.TurnAddresses.{transport_named, tuple_named, ready_named, family_named, sockets_named, HoldsTuple, pair_of};
 
 pub(crate) use crate::address::address_of;
 use crate::address::{Address, endpoint_of};
 use stun_endpoints::{Endpoint, FiveTuple};
-use turn_server::{Ready, Sockets};
+use turn_server::{Pair, Ready, Sockets};
 
 /// A client, the address of the server that it sends to, and the transport between them.
 #[repr(C)]
@@ -32,6 +32,10 @@ pub struct CTurnReady {
     pub any_ipv6: Address,
     /// With an even port.
     pub even_ipv6: Address,
+    /// The one to be reserved with `even_ipv4`, which has the next higher port.
+    pub next_ipv4: Address,
+    /// The one to be reserved with `even_ipv6`.
+    pub next_ipv6: Address,
 }
 
 /// The protocol number of UDP.
@@ -104,13 +108,36 @@ fn read_ready(address: &Address, family: u16, socket: &mut Option<Endpoint>) -> 
     }
 }
 
-/// Reads the sockets of a family that are ready; `false` if one is of another family.
-fn read_family(family: u16, any: &Address, even: &Address, ready: &mut Ready) -> bool
-    ensures read { result ≡ true → family_named family any.now even.now ≡ Some ready.new }
-    ensures wrong { result ≡ false → family_named family any.now even.now ≡ None }
+/// The sockets of a request that reserves, if there are both.
+fn pair_of(even: Option<Endpoint>, next: Option<Endpoint>) -> Option<Pair>
+    ensures { result ≡ pair_of even next }
 {
-    ready.pair = None;
-    read_ready(any, family, &mut ready.any) && read_ready(even, family, &mut ready.even)
+    match (even, next) {
+        (Some(even), Some(next)) => Some(Pair { even, next }),
+        _ => None,
+    }
+}
+
+/// Reads the sockets of a family that are ready; `false` if one is of another family.
+fn read_family(
+    family: u16,
+    any: &Address,
+    even: &Address,
+    next: &Address,
+    ready: &mut Ready,
+) -> bool
+    ensures read { result ≡ true → family_named family any.now even.now next.now ≡ Some ready.new }
+    ensures wrong { result ≡ false → family_named family any.now even.now next.now ≡ None }
+{
+    let mut reserved = None;
+    if !read_ready(any, family, &mut ready.any) || !read_ready(even, family, &mut ready.even) {
+        return false;
+    }
+    if !read_ready(next, family, &mut reserved) {
+        return false;
+    }
+    ready.pair = pair_of(ready.even, reserved);
+    true
 }
 
 /// No sockets of a family.
@@ -128,11 +155,22 @@ pub(crate) const NO_SOCKETS: Sockets = Sockets {
 };
 
 /// Reads the sockets that C has ready; `false` if one has an address of another family.
-pub(crate) fn read_sockets(ready: &CTurnReady, sockets: &mut Sockets) -> bool
-    ensures read { result ≡ true → sockets_named ready.now ≡ Some sockets.new }
-    ensures wrong { result ≡ false → sockets_named ready.now ≡ None }
+pub(crate) fn read_sockets(ready: &CTurnReady, token: u64, sockets: &mut Sockets) -> bool
+    ensures read { result ≡ true → sockets_named ready.now token ≡ Some sockets.new }
+    ensures wrong { result ≡ false → sockets_named ready.now token ≡ None }
 {
-    sockets.token = 0;
-    read_family(4, &ready.any_ipv4, &ready.even_ipv4, &mut sockets.ipv4)
-        && read_family(6, &ready.any_ipv6, &ready.even_ipv6, &mut sockets.ipv6)
+    sockets.token = token;
+    read_family(
+        4,
+        &ready.any_ipv4,
+        &ready.even_ipv4,
+        &ready.next_ipv4,
+        &mut sockets.ipv4,
+    ) && read_family(
+        6,
+        &ready.any_ipv6,
+        &ready.even_ipv6,
+        &ready.next_ipv6,
+        &mut sockets.ipv6,
+    )
 }

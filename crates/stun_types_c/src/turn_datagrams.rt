@@ -59,6 +59,14 @@ pub struct CTurnAction {
     pub code: u32,
     /// 1: data goes with the DF bit.
     pub dont_fragment: u32,
+    /// The token of the socket that the request reserved, or 0.
+    pub reserved: u64,
+    /// The token of the reserved socket that the request took, or 0.
+    pub claimed: u64,
+    /// 1: it reserved one.
+    pub reserves: u32,
+    /// 1: it took one.
+    pub claims: u32,
 }
 
 /// A client's datagram, as C passes it.
@@ -75,6 +83,8 @@ pub struct CTurnDatagram<'a> {
     pub looked_up: u16,
     /// 0.
     pub reserved: u32,
+    /// The RESERVATION-TOKEN of a request that reserves.
+    pub token: u64,
 }
 
 /// No socket was taken.
@@ -99,6 +109,10 @@ fn of_kind(kind: u32, ended: usize) -> CTurnAction
         kind,
         code: 0,
         dont_fragment: 0,
+        reserved: 0,
+        claimed: 0,
+        reserves: 0,
+        claims: 0,
     }
 }
 
@@ -135,6 +149,10 @@ fn respond(response: &Response, ended: usize, out: &mut CTurnAction) -> CResult
         kind,
         code: u32::from(code),
         dont_fragment: 0,
+        reserved: response.reserved.unwrap_or(0),
+        claimed: response.claimed.unwrap_or(0),
+        reserves: u32::from(response.reserved.is_some()),
+        claims: u32::from(response.claimed.is_some()),
     };
     result
 }
@@ -166,6 +184,10 @@ fn put_action(action: &Action, ended: usize, out: &mut CTurnAction) -> CResult
                 kind: 2,
                 code: 0,
                 dont_fragment: u32::from(*dont_fragment),
+                reserved: 0,
+                claimed: 0,
+                reserves: 0,
+                claims: 0,
             };
             plain(codes::OK)
         }
@@ -289,7 +311,7 @@ pub extern "C" fn stun_types_turn_client(
         return plain(codes::BAD_ARGUMENT);
     };
     let mut sockets = NO_SOCKETS;
-    if !read_sockets(&datagram.ready, &mut sockets) {
+    if !read_sockets(&datagram.ready, datagram.token, &mut sockets) {
         return plain(codes::BAD_ARGUMENT);
     }
     let Some(mut core) = take(server, alloc) else {

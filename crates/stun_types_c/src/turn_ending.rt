@@ -3,7 +3,7 @@
 ghost use Rattle.std.specs.Prelude.{◌≡◌};
 ghost use Rattle.turn_machine.specs.Events.{ends, ends_user, ticks};
 ghost use Rattle.turn_slots.specs.Users.{user_number, number_of};
-ghost use Rattle.stun_types_c.specs.TurnEnding.{Ends, Polls, EndsOne, EndsUser, Lists, ListsEnded, shown_due, IsDue, IsNextDue, Counts};
+ghost use Rattle.stun_types_c.specs.TurnEnding.{Ends, Polls, EndsOne, EndsUser, Lists, ListsEnded, ListsOver, shown_due, IsDue, IsNextDue, Counts};
 ghost use Rattle.stun_types_c.specs.TurnHandles.{held_turn};
 
 use crate::handle::{put, take};
@@ -118,6 +118,24 @@ pub extern "C" fn stun_types_turn_ended(
         return 0;
     };
     let count = copy_from(core.server.ended(), first, numbers);
+    put(server, core);
+    count
+}
+
+/// The tokens of the reserved sockets that expired in the last call.
+#[unsafe(no_mangle)]
+pub extern "C" fn stun_types_turn_over(
+    alloc: Global,
+    server: &mut CTurn,
+    tokens: &mut [u64],
+    first: usize,
+) -> usize
+    ensures { ListsOver first tokens.old result tokens.new (held_turn server.old) (held_turn server.new) }
+{
+    let Some(core) = take(server, alloc) else {
+        return 0;
+    };
+    let count = copy_from(core.server.over(), first, tokens);
     put(server, core);
     count
 }
