@@ -72,6 +72,7 @@ TYPES = {
     "turn_opened": "COpened",
     "turn_action": "CTurnAction",
     "turn_delivery": "CDelivery",
+    "flow": "CFlow",
     "allocation": "CAllocation",
     "allocation_settings": "CAllocationSettings",
     "allocation_data": "CAllocationData",

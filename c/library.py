@@ -33,6 +33,7 @@ VERDICTS = {
     "nonce_state",
     "turn_action",
     "turn_delivery",
+    "flow",
     "allocation_data",
     "allocation_head",
     "allocation_change",

@@ -41,6 +41,7 @@ pub mod TurnChanges
 pub mod TurnClients
 pub mod TurnPeers
 pub mod TurnEnding
+pub mod TurnFlows
 pub mod AllocationCodes
 pub mod AllocationMarks
 pub mod AllocationHandles
