@@ -39,6 +39,8 @@ static const struct {
     [TURN_OVER] = {"turn_over", "Datagrams dropped over a limit of data"},
     [TURN_FAILED] = {"turn_failed", "Datagrams to peers that the system refused to send"},
     [TURN_NO_PORT] = {"turn_no_port", "Relay sockets that could not be opened"},
+    [TURN_IN_KERNEL] = {"turn_in_kernel", "Datagrams of those relayed that the kernel relayed"},
+    [TURN_IN_KERNEL_OCTETS] = {"turn_in_kernel_octets", "Octets of data that the kernel relayed"},
     [LOG_LINES] = {"log_lines", "Lines of the log of allocations"},
     [LOG_DROPPED] = {"log_dropped", "Lines of the log of allocations that were dropped"},
     [UDP_DROPPED] = {"udp_dropped", "Datagrams of clients that found the socket's queue full"},
@@ -51,6 +53,7 @@ static const struct {
     const char *name, *meaning;
 } gauges[GAUGES] = {
     [ALLOCATIONS_NOW] = {"allocations", "Allocations there are, of each family"},
+    [FLOWS_NOW] = {"flows", "Channels that the kernel relays"},
     [CONNECTIONS_NOW] = {"connections", "TCP connections there are"},
     [SOCKETS_READY] = {"sockets_ready", "Relay sockets that wait for the next allocations"},
     [USERS_KNOWN] = {"users", "Users in the file of users"},

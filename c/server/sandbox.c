@@ -3,6 +3,7 @@
 
 #include <fcntl.h>
 #include <linux/audit.h>
+#include <linux/bpf.h>
 #include <linux/filter.h>
 #include <linux/seccomp.h>
 #include <stddef.h>
@@ -178,6 +179,14 @@ static void allow_relays(program *to) {
     allow_option(to, IPPROTO_IPV6, IPV6_V6ONLY);
 }
 
+/* What a worker does that has flows: it changes entries of a map of the kernel's, and connects a socket to learn by which
+ * address it sends. */
+static void allow_flows(program *to) {
+    allow_one_if(to, SYS_bpf, 0, BPF_MAP_UPDATE_ELEM);
+    allow_one_if(to, SYS_bpf, 0, BPF_MAP_DELETE_ELEM);
+    allow(to, SYS_connect);
+}
+
 static void allow_both(program *to) {
     static const int calls[] = {
         SYS_clock_gettime, SYS_close,
@@ -209,11 +218,12 @@ static bool set_filter(program *made, unsigned long flags) {
 
 /* SPEC_ALLOW: the processor may speculate as before. Older systems would slow the process down,
  * against code in it that reads its memory; unless it relays it holds no secrets. */
-bool filter_calls(int own, bool relays) {
+bool filter_calls(int own, bool relays, bool flows) {
     program made;
     begin_filter(&made);
     if (own < 0 || relays) allow_events(&made);
     if (relays) allow_relays(&made);
+    if (flows) allow_flows(&made);
     if (own < 0) {
         allow_tcp(&made);
     } else if (!relays) {
@@ -234,9 +244,10 @@ bool filter_log_calls(int log) {
 
 #else
 
-bool filter_calls(int own, bool relays) {
+bool filter_calls(int own, bool relays, bool flows) {
     (void)own;
     (void)relays;
+    (void)flows;
     return false;
 }
 

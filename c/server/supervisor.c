@@ -137,6 +137,7 @@ static bool has_clients(const worker *of) { return of->kind == FOR_UDP || of->ki
 static bool begin(const worker *as, tally *mine) {
     if (as->kind == FOR_LOG) begin_log(mine);
     if (has_clients(as)) begin_logging((size_t)(as - group.workers), mine);
+    if (as->kind == FOR_UDP && !begin_flows((size_t)(as - group.workers), mine)) return false;
     if (as->kind == FOR_UDP) return begin_udp(as->from, group.rates, mine);
     return as->kind != FOR_TCP || begin_tcp(group.endpoints, mine);
 }
@@ -156,7 +157,7 @@ static bool filter(const worker *as) {
     int own = as->from != NULL ? as->from->socket : -1;
     if (!can_filter()) return true;
     if (as->kind == FOR_LOG) return filter_log_calls(log_file());
-    return filter_calls(own, setting(TURN) && has_clients(as));
+    return filter_calls(own, setting(TURN) && has_clients(as), has_flows());
 }
 
 /* Runs as a worker, which ends with its supervisor. It prints nothing once it serves: what is then
@@ -170,6 +171,7 @@ static void work(const worker *as, tally *mine, pid_t supervisor) {
     protect_users(has_clients(as));
     protect_orders();
     protect_peers();
+    if (as->kind != FOR_UDP) leave_kernel();
     if (!begin(as, mine)) _exit(1);
     if (setting(SANDBOX)) close_off_system(NULL, 0, NULL);
     close(STDIN_FILENO);
@@ -196,6 +198,7 @@ static void start(worker *started) {
     started->born = started->beats = beats_of(started);
     started->missed = 0;
     started->hung = started->ends = false;
+    if (started->kind == FOR_UDP) begin_life((size_t)(started - group.workers), mine);
     started->process = fork();
     if (started->process == 0) work(started, mine, supervisor);
     if (started->process < 0 && !has_failed) {
@@ -505,6 +508,7 @@ bool supervise(const endpoints *from, rate_table *rates, int reports) {
     notify("STOPPING=1");
     end_workers(false);
     end_workers(true); /* (it writes what the others have logged in the end) */
+    end_kernel(&group.tallies[group.count]);
     if (setting(LOG_LEVEL) >= NEWS) print_now();
     return ended;
 }
