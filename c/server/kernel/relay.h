@@ -18,12 +18,12 @@ enum {
     MOST_RELAYED_PLACES = 2, /* one of a family */
     MOST_INTERFACES = 4
 };
-#define NO_BUCKET 0xFFFFFFFFu /* (ISO C has no enumerator that large) */
+#define NO_BUCKET 0xFFFFFFFFu /* of a flow without limits */
 
 /* An address of IPv6, or one of IPv4 as ::ffff:a.b.c.d. */
 struct ip {
     __u8 octets[16];
-};
+} __attribute__((aligned(8)));
 
 /* slots: a hash from a key to the number of the flow's slot. Who sent a datagram, where it came to, and its channel
  * number; 0: it is a peer's, which has none. A relayed address is no address that clients send to, so no two flows have

@@ -1,0 +1,17 @@
+use Rattle.std.proofs.Common.{◌++◌, ◌∙◌, arith}
+use Rattle.stun_grammar.specs.Numbers.{be16}
+use Rattle.kernel_rules.specs.Checksums.{words}
+use Rattle.kernel_rules.specs.Datagrams.{summed_ipv6}
+use Rattle.kernel_rules.proofs.ChecksumsLemmas.{right_alike, of_udp_ipv6, of_channel}
+use Rattle.kernel_rules.proofs.udp.kernel_to_client_ipv6.Goals as goal
+
+pub returns-clause-checksum : goal.returns-clause-checksum
+returns-clause-checksum c bytes some =
+    let a = c.args in
+    let length = c.saturating_sub-length.result in
+    let carried = be16 a.number ++ be16 length ++ bytes in
+    let head = of_channel a.number length bytes (omega arith) (omega arith) in
+    right_alike (summed_ipv6 a.to.now c.outgoing_udp.result carried) (summed_ipv6 a.from.now a.header.now bytes) _ _
+    (of_udp_ipv6 a.to.now c.outgoing_udp.result carried (omega arith) ∙ omega (arith, head, c.ipv6_words.ensures.sum, c.from.ensures, c.from-2.ensures))
+    (of_udp_ipv6 a.from.now a.header.now bytes (omega arith) ∙ omega (arith, c.ipv6_words-2.ensures.sum))
+    (c.outgoing_udp.ensures.sum (words bytes) some)
