@@ -90,15 +90,19 @@ static bool has_form(int map, size_t key, size_t value, size_t entries) {
            found.max_entries == entries;
 }
 
+/* Closes a map that was opened, or wasn't; fits: it has the form that it should have. */
+static void close_map(int map, bool fits) {
+    int error = map >= 0 && !fits ? EINVAL : errno;
+    if (map >= 0) close(map);
+    errno = error;
+}
+
 /* The memory of an array that the kernel reads; NULL: it can't be had, as errno says. */
 static void *open_array(int which, size_t value, size_t entries) {
     int map = open_pin(which);
     bool fits = map >= 0 && has_form(map, sizeof(uint32_t), value, entries);
     void *at = fits ? mmap(NULL, value * entries, PROT_READ | PROT_WRITE, MAP_SHARED, map, 0) : MAP_FAILED;
-    if (map >= 0) {
-        if (!fits) errno = EINVAL;
-        close(map);
-    }
+    close_map(map, fits);
     return at == MAP_FAILED ? NULL : at;
 }
 
@@ -111,8 +115,9 @@ static bool read_entry(int which, void *into, size_t size) {
     how.map_fd = (uint32_t)map;
     how.key = (uintptr_t)&first;
     how.value = (uintptr_t)into;
-    bool is_read = map >= 0 && has_form(map, sizeof first, size, 1) && call_bpf(BPF_MAP_LOOKUP_ELEM, &how) == 0;
-    if (map >= 0) close(map);
+    bool fits = map >= 0 && has_form(map, sizeof first, size, 1);
+    bool is_read = fits && call_bpf(BPF_MAP_LOOKUP_ELEM, &how) == 0;
+    close_map(map, fits);
     return is_read;
 }
 
@@ -206,8 +211,9 @@ static const char *open_all_maps(void) {
     kernel.near = if_nametoindex(near);
     kernel.far = far != NULL ? if_nametoindex(far) : kernel.near;
     if (kernel.near == 0 || kernel.far == 0) return "no-interface";
-    if (!lock_folder()) return errno == EWOULDBLOCK ? "in-use" : "not-loaded";
-    if (!open_maps()) return errno == EPERM || errno == EACCES ? "no-rights" : "not-loaded";
+    bool is_locked = lock_folder();
+    if (!is_locked && errno == EWOULDBLOCK) return "in-use";
+    if (!is_locked || !open_maps()) return errno == EPERM || errno == EACCES ? "no-rights" : "not-loaded";
     errno = 0;
     if (!is_watched(kernel.near) || !is_watched(kernel.far)) return "other-interface";
     if (!has_kernel_clock()) return "other-clock";
@@ -261,7 +267,7 @@ static void end_slots(uint32_t first, uint32_t many, tally *of) {
     }
 }
 
-void begin_life(size_t worker, tally *of) {
+void end_life(size_t worker, tally *of) {
     if (!kernel.is_on || worker >= MOST_LEASES || kernel.share * (worker + 1) > MOST_FLOWS) return;
     __atomic_store_n(&kernel.leases[worker].until, 0, __ATOMIC_SEQ_CST);
     kernel.leases[worker].life++;
@@ -289,19 +295,28 @@ static void add_free(uint32_t number, uint64_t freed) {
     own.last_free = number;
 }
 
+/* Has the pairs of a new worker be free: last those that the one before has used, since the kernel may still read
+ * one. */
+static void free_all(void) {
+    uint64_t now = nanoseconds();
+    own.first_free = NO_PAIR;
+    for (int used = 0; used < 2; used++) {
+        for (uint32_t i = 0; i < kernel.share / 2; i++) {
+            if ((slot_of(i, true)->mtu != 0) == (used == 1)) add_free(i, used == 1 ? now : 0);
+        }
+    }
+}
+
 bool begin_flows(size_t worker, tally *mine) {
     if (!kernel.is_on) return true;
-    uint64_t now = nanoseconds();
     own.number = (uint32_t)worker;
     own.mine = mine;
     own.pairs = calloc(kernel.share / 2, sizeof *own.pairs);
     own.chains = calloc(CHAINS, sizeof *own.chains);
-    own.first_free = NO_PAIR;
     if (own.pairs == NULL || own.chains == NULL) return cannot("no memory");
     if (getrandom(&own.seed, sizeof own.seed, 0) != sizeof own.seed) return cannot("no random numbers");
     for (uint32_t i = 0; i < CHAINS; i++) own.chains[i] = NO_PAIR;
-    /* (of those that the worker before has used, the kernel may still read one) */
-    for (uint32_t i = 0; i < kernel.share / 2; i++) add_free(i, slot_of(i, true)->mtu != 0 ? now : 0);
+    free_all();
     own.bandwidth = setting(BANDWIDTH);
     own.packet_rate = setting(PACKET_RATE);
     return true;

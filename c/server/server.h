@@ -612,9 +612,9 @@ void hmac_sha1(const void *key, size_t key_length, const void *text, size_t leng
  * is relayed as without. */
 void open_kernel(const endpoints *of);
 
-/* Ends the flows of a worker that was there, before another one starts in its place, or of all; and counts what they
+/* Ends the flows of a worker that has died, before another one starts in its place, or of all; and counts what they
  * have relayed. */
-void begin_life(size_t worker, tally *of);
+void end_life(size_t worker, tally *of);
 void end_kernel(tally *of);
 
 /* In a process that has no flows. */

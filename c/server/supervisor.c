@@ -198,7 +198,6 @@ static void start(worker *started) {
     started->born = started->beats = beats_of(started);
     started->missed = 0;
     started->hung = started->ends = false;
-    if (started->kind == FOR_UDP) begin_life((size_t)(started - group.workers), mine);
     started->process = fork();
     if (started->process == 0) work(started, mine, supervisor);
     if (started->process < 0 && !has_failed) {
@@ -263,6 +262,7 @@ static void print_deaths(death_list *of) {
 static void note_death(worker *dead, int status) {
     death_list *kind = dead->hung ? &group.hung : &group.died;
     uint64_t now = milliseconds();
+    if (dead->kind == FOR_UDP) end_life((size_t)(dead - group.workers), &group.tallies[dead - group.workers]);
     if (dead->ends) {
         clear_gauges(&group.tallies[dead - group.workers]);
         dead->process = 0;

@@ -104,9 +104,12 @@ class Pair:
     def is_relayed(self, seconds=0.3):
         """Whether data reaches the peer, and data of the peer the client; what isn't, isn't in part."""
         mark = os.urandom(16)
-        self.client.send_on(self.channel, mark)
         self.peer.socket.sendto(mark, self.relayed)
-        heard, told = self.peer.hears(seconds), self.client.data(seconds)
+        heard = told = None
+        with contextlib.suppress(ConnectionRefusedError):  # (nobody is there)
+            self.client.send_on(self.channel, mark)
+            heard = self.peer.hears(seconds)
+            told = self.client.data(seconds)
         check(heard in (None, (self.relayed, mark)) and told in (None, (self.channel, mark)), f"{heard}, {told}")
         return heard is not None, told is not None
 
@@ -176,7 +179,6 @@ def lives(programs, hosts):
         os.kill(worker, signal.SIGKILL)
         check(server.wait_for("worker-died")["signal"] == "9", "it died otherwise")
         check(pair.is_relayed() == (False, False), "flows of a worker that has died relay")
-        wait_until(lambda: pair.client.socket.send(b"") is not None, "it doesn't send")
         time.sleep(1.2)
         with Pair(hosts, server) as other:
             relayed_by_kernel(server, other)
@@ -335,13 +337,23 @@ def rates(programs, hosts):
         check(ended(server)["turn_in_kernel"] == 0, "the kernel relays beside a limit of a user's")
 
 
+# what the unit does by TemporaryFileSystem and BindReadOnlyPaths
+UNIT_MOUNTS = f"""
+mount -t tmpfs none /mnt && mkdir /mnt/pins && mount --bind {PINS}/stun-server /mnt/pins
+mount -t tmpfs -o mode=755 none {PINS} && mkdir {PINS}/stun-server
+mount --bind /mnt/pins {PINS}/stun-server && mount -o remount,bind,ro {PINS}/stun-server
+exec "$0" "$@"
+"""
+
+
 @with_mounts
 def without(programs, hosts):
     """Without the program, the right to its maps, or an interface that it has, the server says so once, and relays."""
     as_nobody = ["setpriv", "--reuid", "65534", "--clear-groups", "--bounding-set", "-all", "--inh-caps", "-all"]
+    under_unit = ["unshare", "-m", "sh", "-ec", UNIT_MOUNTS, *as_nobody]
     for reason, load_for, how in (("not-loaded", None, {}), ("no-interface", (), {"by": ["-o", "kernel=none"]}),
                                   ("other-interface", (), {"by": ["-o", "kernel=lo"]}),
-                                  ("no-rights", (), {"command": as_nobody}), (None, ("-U", "65534"), {"command": as_nobody})):
+                                  ("no-rights", (), {"command": as_nobody}), (None, ("-U", "65534"), {"command": under_unit})):
         with relaying(programs, hosts, load_for=load_for, **how) as server, Pair(hosts, server) as pair:
             if reason:
                 check(server.wait_for("kernel-off")["reason"] == reason, f"another reason than {reason}")
