@@ -445,7 +445,7 @@ static bool remove_all(void) {
 }
 
 static bool pin_all(const int maps[RELAY_MAPS], int program) {
-    if (mkdir(asked.folder, S_IRWXU | S_IXGRP | S_IXOTH) != 0) return cannot(asked.folder);
+    if (mkdir(asked.folder, S_IRWXU | S_IRGRP | S_IXGRP | S_IROTH | S_IXOTH) != 0) return cannot(asked.folder);
     for (int i = 0; i < RELAY_MAPS; i++) {
         if (!pin(maps[i], pins[i], asked.user)) return false;
     }
