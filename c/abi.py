@@ -77,6 +77,7 @@ TYPES = {
     "ip_fields": "CIpFields",
     "turn_relayed": "CRelayed",
     "turn_sent": "CSentFields",
+    "flow": "CFlow",
     "allocation": "CAllocation",
     "allocation_settings": "CAllocationSettings",
     "allocation_data": "CAllocationData",

@@ -35,6 +35,7 @@ VERDICTS = {
     "turn_delivery",
     "turn_notice",
     "turn_sent",
+    "flow",
     "allocation_data",
     "allocation_head",
     "allocation_change",

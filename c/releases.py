@@ -95,9 +95,9 @@ def check_content(wrong, root, kit):
     examples = [f"examples/{it.name}" for it in shown_examples()]
     guides = [f"guide/{it}.md" for it in ("C", "HMACS", "PROGRAMS", "STUN-SERVER", "TROUBLESHOOTING")]
     more = ["RELEASE.txt", "SHA256SUMS", "uninstall", "stun-server.conf", "stun-server.service",
-            "stunnel.conf", "haproxy.cfg"]
+            "stun-server-kernel.service", "stunnel.conf", "haproxy.cfg"]
     more = [f"share/doc/stun_types/{it}" for it in [*more, *examples, *guides]]
-    server = ["bin/stun-server", "share/man/man8/stun-server.8"]
+    server = ["bin/stun-server", "bin/stun-server-kernel", "share/man/man8/stun-server.8"]
     compare(wrong, tree(root), sorted({*installed(), *PROGRAMS, *server, *more}))
     for guide in guides:
         links = re.findall(r"\]\((?!https?:)[^)]*\)", (documents / guide).read_text())

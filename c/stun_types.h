@@ -1536,6 +1536,26 @@ typedef struct {
    field is greater than it may be. */
 STUN_TYPES_NODISCARD STUN_TYPES_NONNULL((1, 2))
 stun_types_answer stun_types_turn_fields(const stun_types_turn_relayed *relayed, stun_types_turn_sent *sent);
+/* What the data of a channel is relayed by, in both directions: a program, for example in the kernel, can do it
+   without the server. ChannelData of the client, on the channel, goes to peer from the socket relay, and what
+   peer sends to this socket goes to the client on the channel. */
+typedef struct {
+    uint64_t relay;      /* the number of the socket */
+    uint64_t expires_at; /* in nanoseconds of the caller's clock: the first end of the relayed address, the
+                            channel, and the permission for the peer; at most UINT64_MAX */
+    stun_types_address peer; /* that the channel is bound to */
+} stun_types_flow;
+
+/* Returns true, and the flow on a channel of a client, as of the last call with the server and a time. What it
+   says holds until it expires, unless a request of this client is answered with success, stun_types_turn_end or
+   stun_types_turn_end_user is called, or the rules change: ask again then. The rules for peers are not asked: end
+   the flows to a peer that they deny.
+   False, and zeros: no relayed address of the client has the channel, or there is no permission for its peer, or
+   there is no server, or a family is neither 4 nor 6, or stream is neither 0 nor 1, or the arguments overlap.
+   It ends nothing, and allocates nothing. */
+STUN_TYPES_NODISCARD STUN_TYPES_NONNULL((1, 2, 4))
+bool stun_types_turn_flow(stun_types_turn *server, const stun_types_five_tuple *client, uint16_t channel,
+                          stun_types_flow *flow);
 
 /* Ends what has expired, and returns how many relayed addresses it ended: stun_types_turn_ended. Without a
    server it is 0. Each call that takes the time does this, so that a server without datagrams needs it
@@ -2356,6 +2376,10 @@ STUN_TYPES_LAYOUT(turn_relayed_received, offsetof(stun_types_turn_relayed, recei
 STUN_TYPES_LAYOUT(turn_sent_size, sizeof(stun_types_turn_sent) == 10);
 STUN_TYPES_LAYOUT(turn_sent_fields, offsetof(stun_types_turn_sent, fields) == 0);
 STUN_TYPES_LAYOUT(turn_sent_sends, offsetof(stun_types_turn_sent, sends) == 8);
+STUN_TYPES_LAYOUT(flow_size, sizeof(stun_types_flow) == 40);
+STUN_TYPES_LAYOUT(flow_relay, offsetof(stun_types_flow, relay) == 0);
+STUN_TYPES_LAYOUT(flow_expires_at, offsetof(stun_types_flow, expires_at) == 8);
+STUN_TYPES_LAYOUT(flow_peer, offsetof(stun_types_flow, peer) == 16);
 STUN_TYPES_LAYOUT(allocation_size, sizeof(stun_types_allocation) == 16);
 STUN_TYPES_LAYOUT(allocation_at, offsetof(stun_types_allocation, at) == 0);
 STUN_TYPES_LAYOUT(allocation_held, offsetof(stun_types_allocation, held) == 8);

@@ -506,6 +506,21 @@ static void check_fields(source *from) {
     else HOLDS(told->fields.dont_fragment == came->dont_fragment);
 }
 
+/* The flow on a channel, of a client or of any other 5-tuple. */
+static void check_flow(source *from, const stun_types_five_tuple *tuple) {
+    unsigned how = take(from), number = how < 128 ? 0x4000 + how % 4 : take_two(from);
+    stun_types_five_tuple client = *tuple;
+    stun_types_flow *flow = NEW(stun_types_flow), expected;
+    bool is_named, is_found;
+    if (how % 64 == 63) *(how == 63 ? &client.server.family : &client.stream) = (uint16_t)take(from);
+    is_named = (client.server.family == 4 || client.server.family == 6) && client.stream < 2;
+    model_turn_flow(&model, &client, number, &expected);
+    if (!is_named) memset(&expected, 0, sizeof expected);
+    is_found = stun_types_turn_flow(server, copy_of(&client, sizeof client), (uint16_t)number, flow);
+    HOLDS(is_found == (expected.peer.family != 0) && flow->relay == expected.relay);
+    HOLDS(flow->expires_at == expected.expires_at && model_is_same_address(&flow->peer, &expected.peer));
+}
+
 /* What has expired ends, and a relayed address, or all of a user. */
 static void check_ends(source *from) {
     unsigned how = take(from), which = how / 4 % MODEL_TURN_ALLOCATIONS;
@@ -685,6 +700,7 @@ static void check_event(source *from) {
                                  : 2 + kind % 4,
                      &tuple.client);
         if (how == 21) check_arguments(from, &tuple);
+        if (how / 32 % 2 == 1) check_flow(from, &tuple);
         check_client(from, &tuple, port);
     } else if (kind == 22) {
         message.length = from->left < 60 ? from->left : 60;

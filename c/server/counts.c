@@ -41,6 +41,8 @@ static const struct {
     [TURN_NO_PORT] = {"turn_no_port", "Relay sockets that could not be opened"},
     [TURN_ICMP] = {"turn_icmp", "ICMP packets passed to clients"},
     [TURN_HOPS] = {"turn_hops", "Datagrams dropped since their Hop Limit was used up"},
+    [TURN_IN_KERNEL] = {"turn_in_kernel", "Datagrams of those relayed that the kernel relayed"},
+    [TURN_IN_KERNEL_OCTETS] = {"turn_in_kernel_octets", "Octets of data that the kernel relayed"},
     [LOG_LINES] = {"log_lines", "Lines of the log of allocations"},
     [LOG_DROPPED] = {"log_dropped", "Lines of the log of allocations that were dropped"},
     [UDP_DROPPED] = {"udp_dropped", "Datagrams of clients that found the socket's queue full"},
@@ -53,6 +55,7 @@ static const struct {
     const char *name, *meaning;
 } gauges[GAUGES] = {
     [ALLOCATIONS_NOW] = {"allocations", "Allocations there are, of each family"},
+    [FLOWS_NOW] = {"flows", "Channels that the kernel relays"},
     [CONNECTIONS_NOW] = {"connections", "TCP connections there are"},
     [SOCKETS_READY] = {"sockets_ready", "Relay sockets that wait for the next allocations"},
     [RESERVED_NOW] = {"reserved", "Relay sockets that are reserved"},

@@ -147,6 +147,7 @@ static int run(const socket_address *addresses, size_t count, uint32_t passed) {
     if (options.reports != NULL && (reports = open_reports(options.reports)) < 0) return STATUS_BROKEN;
     if ((rates = make_rate_table()) == NULL) return STATUS_BROKEN;
     if (setting(TURN) && !(prepare_turn(&opened) && open_log())) return start_status;
+    if (setting(TURN)) open_kernel(&opened);
     if (options.user != NULL && setting(TURN) && !keep_reader()) return STATUS_BROKEN;
     if (options.user != NULL && !become_user(options.user)) return STATUS_BROKEN;
     return supervise(&opened, rates, reports) ? STATUS_DONE : STATUS_BROKEN;

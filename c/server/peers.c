@@ -163,6 +163,7 @@ bool follow_peers(stun_types_turn *server, stun_types_turn_settings *settings) {
     static bool is_late; /* there was no memory */
     if (!is_late && atomic_load_explicit(&shared->turn, memory_order_relaxed) == peers.turn) return true;
     copy_rules();
+    end_all_flows();
     settings->allowed_count = peers.rules.allowed_count;
     settings->denied_count = peers.rules.denied_count;
     is_late = stun_types_turn_set_rules(server, settings).code != STUN_TYPES_OK;

@@ -318,6 +318,12 @@ void close_relay_socket(relay *closed) {
     closed->socket = -1;
 }
 
+stun_types_address bound_address(const relay *of) {
+    stun_types_address bound = relays.families[of->relayed.family == 4 ? 0 : 1].own;
+    bound.port = of->relayed.port;
+    return bound;
+}
+
 void free_relay(relay *freed) {
     close_relay_socket(freed);
     freed->is_taken = false;

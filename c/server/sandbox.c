@@ -3,6 +3,7 @@
 
 #include <fcntl.h>
 #include <linux/audit.h>
+#include <linux/bpf.h>
 #include <linux/filter.h>
 #include <linux/seccomp.h>
 #include <stddef.h>
@@ -179,6 +180,14 @@ static void allow_relays(program *to, const socket_option *set, size_t count) {
     for (size_t i = 0; i < count; i++) allow_option(to, set[i].level, set[i].name);
 }
 
+/* What a worker does that has flows: it changes entries of a map of the kernel's, and connects a socket to learn by which
+ * address it sends. */
+static void allow_flows(program *to) {
+    allow_one_if(to, SYS_bpf, 0, BPF_MAP_UPDATE_ELEM);
+    allow_one_if(to, SYS_bpf, 0, BPF_MAP_DELETE_ELEM);
+    allow(to, SYS_connect);
+}
+
 static void allow_both(program *to) {
     static const int calls[] = {
         SYS_clock_gettime, SYS_close,
@@ -210,11 +219,12 @@ static bool set_filter(program *made, unsigned long flags) {
 
 /* SPEC_ALLOW: the processor may speculate as before. Older systems would slow the process down,
  * against code in it that reads its memory; unless it relays it holds no secrets. */
-bool filter_calls(int own, bool relays, const socket_option *set, size_t count) {
+bool filter_calls(int own, bool relays, const socket_option *set, size_t count, bool flows) {
     program made;
     begin_filter(&made);
     if (own < 0 || relays) allow_events(&made);
     if (relays) allow_relays(&made, set, count);
+    if (flows) allow_flows(&made);
     if (own < 0) {
         allow_tcp(&made);
     } else if (!relays) {
@@ -235,11 +245,12 @@ bool filter_log_calls(int log) {
 
 #else
 
-bool filter_calls(int own, bool relays, const socket_option *set, size_t count) {
+bool filter_calls(int own, bool relays, const socket_option *set, size_t count, bool flows) {
     (void)own;
     (void)relays;
     (void)set;
     (void)count;
+    (void)flows;
     return false;
 }
 

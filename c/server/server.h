@@ -86,6 +86,7 @@ enum {
     ALTERNATE,
     ALLOCATION_LOG,
     PROXY,
+    KERNEL,
     TEXTS
 };
 
@@ -228,12 +229,13 @@ int close_off_system(const char *const *folders, size_t count, const char *writt
 
 /* Whether the system filters system calls (seccomp), and whether it does so from now on: then a
  * call that serving doesn't make ends the process. own: the socket by which a worker for UDP sends;
- * -1: it has connections. relays: it opens sockets for UDP, and sends by each, and these options are set. */
+ * -1: it has connections. relays: it opens sockets for UDP, and sends by each, and these options are set. flows: it
+ * changes maps of the kernel's, and asks by which of its addresses it sends to another one. */
 typedef struct {
     int level, name, value;
 } socket_option;
 bool can_filter(void);
-bool filter_calls(int own, bool relays, const socket_option *set, size_t count);
+bool filter_calls(int own, bool relays, const socket_option *set, size_t count, bool flows);
 
 /* The same for a process that only writes to one file. */
 bool filter_log_calls(int log);
@@ -274,6 +276,8 @@ enum {
     TURN_NO_PORT, /* no relay socket could be opened */
     TURN_ICMP,    /* ICMP packets passed to clients */
     TURN_HOPS,    /* dropped, since the hop limit was used up */
+    TURN_IN_KERNEL, /* datagrams that the kernel relayed, and octets of their data: they count above too */
+    TURN_IN_KERNEL_OCTETS,
     LOG_LINES, /* of the log of allocations, written and not */
     LOG_DROPPED,
     UDP_DROPPED, /* this and the next three are the supervisor's */
@@ -284,7 +288,7 @@ enum {
 };
 
 /* What there is at the moment; the last three are the supervisor's. */
-enum { ALLOCATIONS_NOW, CONNECTIONS_NOW, SOCKETS_READY, RESERVED_NOW, USERS_KNOWN, MEMORY, DRAINING, GAUGES };
+enum { ALLOCATIONS_NOW, FLOWS_NOW, CONNECTIONS_NOW, SOCKETS_READY, RESERVED_NOW, USERS_KNOWN, MEMORY, DRAINING, GAUGES };
 
 /* Why requests of clients of TURN are refused. counts.c has the codes. */
 enum {
@@ -491,6 +495,7 @@ typedef struct {
     stun_types_hash hash; /* of the user */
     stun_types_address relayed; /* what clients learn */
     uint64_t opened;            /* in nanoseconds */
+    uint64_t offered_at;        /* when the kernel is next asked to relay one of its channels */
     user_name name;
 } relay;
 
@@ -589,6 +594,9 @@ void close_relay_socket(relay *closed);
 
 void free_relay(relay *freed);
 
+/* What the socket of a relay is bound to. */
+stun_types_address bound_address(const relay *of);
+
 /* Whether an address is one of this machine's now. If the system doesn't say, it is. */
 bool is_local(const stun_types_address *address);
 
@@ -672,6 +680,42 @@ uint64_t nonce_time(uint64_t now);
 enum { SHA1_LENGTH = 20 };
 void hmac_sha1(const void *key, size_t key_length, const void *text, size_t length,
                uint8_t result[SHA1_LENGTH]);
+
+/* ---- Relaying in the kernel (kernel.c) ------------------------------------------------------- */
+
+/* Opens the maps that the kernel relays by, if the settings name an interface. If it can't, that is an event, and all
+ * is relayed as without. */
+void open_kernel(const endpoints *of);
+
+/* Ends the flows of a worker that has died, before another one starts in its place, or of all; and counts what they
+ * have relayed. */
+void end_life(size_t worker, tally *of);
+void end_kernel(tally *of);
+
+/* In a process that has no flows. */
+void leave_kernel(void);
+
+/* In a worker for UDP, which vouches for its flows for three seconds from now, by the clock of nanoseconds(). */
+bool begin_flows(size_t worker, tally *mine);
+bool has_flows(void);
+void vouch(uint64_t now);
+
+/* Makes what the kernel relays what the library says that it relays: after a signed request of a client, before the
+ * response to it leaves; and after data of a client's channel, which is tried once a second. */
+void follow_request(stun_types_turn *server, const stun_types_five_tuple *client, const uint8_t *request,
+                    size_t length);
+void follow_data(stun_types_turn *server, relay *by, uint16_t channel, uint64_t now);
+
+/* Ends the flows of a relay, before its socket is closed; and all, since the rules for peers have changed. */
+void end_flows(const relay *of);
+void end_all_flows(void);
+
+/* Once a second, by the time of the library: ends those that are over, and counts. */
+void look_after_flows(uint64_t now);
+
+/* The rates of an allocation, by which both pay: those of a new one are zero. packets: not that of octets. */
+void begin_bucket(const relay *of);
+bool may_pass_beside_kernel(relay *of, bool packets, uint32_t rate, size_t amount, uint64_t now);
 
 /* ---- The log of allocations (log.c) ---------------------------------------------------------- */
 

@@ -2,6 +2,7 @@
  * The numbers are in memory that all processes share: workers follow a change at once. */
 #include "server.h"
 
+#include <net/if.h>
 #include <sys/mman.h>
 
 static const struct {
@@ -65,6 +66,10 @@ static bool is_realm(const char *text) {
 
 static bool is_path(const char *text) { return *text != 0; }
 
+static bool is_interface(const char *text) {
+    return strlen(text) < IFNAMSIZ || fault_is("no name of an interface, which has at most %d characters", IFNAMSIZ - 1);
+}
+
 static bool is_address(const char *text) {
     stun_types_address address;
     return read_ip(text, &address) || fault_is("no IP address");
@@ -124,6 +129,8 @@ static const struct {
                         "off, on (standard error), syslog or the PATH of a file: allocations and their ends"},
     [PROXY] = {"proxy", MOST_PROXIES, true, is_prefix,
                "a PREFIX of proxies over TCP, whose connections begin with a header of the PROXY protocol"},
+    [KERNEL] = {"kernel", 2, true, is_interface,
+                "an INTERFACE by which the kernel relays channels over UDP; a second one, for peers"},
 };
 
 /* Texts as they were given: which setting each is, and where it begins. */

@@ -137,6 +137,7 @@ static bool has_clients(const worker *of) { return of->kind == FOR_UDP || of->ki
 static bool begin(const worker *as, tally *mine) {
     if (as->kind == FOR_LOG) begin_log(mine);
     if (has_clients(as)) begin_logging((size_t)(as - group.workers), mine);
+    if (as->kind == FOR_UDP && !begin_flows((size_t)(as - group.workers), mine)) return false;
     if (as->kind == FOR_UDP) return begin_udp(as->from, group.rates, mine);
     return as->kind != FOR_TCP || begin_tcp(group.endpoints, mine);
 }
@@ -157,7 +158,7 @@ static bool filter(const worker *as) {
     if (!can_filter()) return true;
     if (as->kind == FOR_LOG) return filter_log_calls(log_file());
     socket_option set[MOST_OPTIONS];
-    return filter_calls(own, setting(TURN) && has_clients(as), set, relay_options(set));
+    return filter_calls(own, setting(TURN) && has_clients(as), set, relay_options(set), has_flows());
 }
 
 /* Runs as a worker, which ends with its supervisor. It prints nothing once it serves: what is then
@@ -171,6 +172,7 @@ static void work(const worker *as, tally *mine, pid_t supervisor) {
     protect_users(has_clients(as));
     protect_orders();
     protect_peers();
+    if (as->kind != FOR_UDP) leave_kernel();
     if (!begin(as, mine)) _exit(1);
     if (setting(SANDBOX)) close_off_system(NULL, 0, NULL);
     close(STDIN_FILENO);
@@ -261,6 +263,7 @@ static void print_deaths(death_list *of) {
 static void note_death(worker *dead, int status) {
     death_list *kind = dead->hung ? &group.hung : &group.died;
     uint64_t now = milliseconds();
+    if (dead->kind == FOR_UDP) end_life((size_t)(dead - group.workers), &group.tallies[dead - group.workers]);
     if (dead->ends) {
         clear_gauges(&group.tallies[dead - group.workers]);
         dead->process = 0;
@@ -506,6 +509,7 @@ bool supervise(const endpoints *from, rate_table *rates, int reports) {
     notify("STOPPING=1");
     end_workers(false);
     end_workers(true); /* (it writes what the others have logged in the end) */
+    end_kernel(&group.tallies[group.count]);
     if (setting(LOG_LEVEL) >= NEWS) print_now();
     return ended;
 }

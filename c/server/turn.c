@@ -24,7 +24,7 @@ static struct {
 static struct {
     stun_types_turn server;
     turn_process process;
-    uint64_t now;
+    uint64_t now, clock; /* the library's time, and that of nanoseconds() */
     user_keys keys;
     stun_types_id ids[IDS]; /* random */
     size_t ids_left;
@@ -170,6 +170,7 @@ static void close_relay(uint64_t number, unsigned why) {
     count(turn.process.mine, TURN_ENDED, 1);
     if (ended == NULL) return;
     raise_by(&turn.process.mine->gauges[ALLOCATIONS_NOW], UINT64_MAX); /* (one less) */
+    end_flows(ended);
     log_end(ended, why);
     if (turn.process.changed != NULL) turn.process.changed(ended, false);
     free_relay(ended);
@@ -217,6 +218,8 @@ static void end_reserved(void) {
 
 void begin_turn_at(uint64_t now) {
     turn.now = nonce_time(now);
+    turn.clock = now;
+    vouch(now);
     follow_settings();
     held = 0;
     if (is_reserved_over(turn.now)) end_reserved();
@@ -235,6 +238,7 @@ static void end_revoked(void) {
 void look_after_relays(void) {
     end_expired();
     end_revoked();
+    look_after_flows(turn.now);
     open_spares(turn.process.mine);
 }
 
@@ -347,6 +351,7 @@ static void keep_socket(const turn_client *of, const stun_types_turn_opened *ope
     taken->name = turn.keys.name;
     taken->relayed = opened->relayed;
     taken->opened = turn.now;
+    begin_bucket(taken);
     memset(&event, 0, sizeof event);
     event.events = EPOLLIN;
     event.data.u64 = turn.process.first + relay_slot(taken);
@@ -370,7 +375,7 @@ static void keep_reserved(const stun_types_turn_action *action) {
 /* Whether a datagram may pass by the packet rates of an allocation and of its user. */
 static bool may_count(relay *by) {
     uint32_t rate = setting(PACKET_RATE), of_user = setting(USER_PACKET_RATE);
-    return (rate == 0 || may_pass_by(&by->packets_until, rate, 1, turn.now)) &&
+    return (rate == 0 || may_pass_beside_kernel(by, true, rate, 1, turn.clock)) &&
            (of_user == 0 || may_pass(plan.user_packets, by->user, of_user, 1, turn.now));
 }
 
@@ -378,7 +383,7 @@ static bool may_count(relay *by) {
 static bool may_weigh(relay *by, size_t octets) {
     uint32_t rate = setting(BANDWIDTH), of_user = setting(USER_BANDWIDTH);
     if (octets < LEAST_OCTETS) octets = LEAST_OCTETS;
-    return (rate == 0 || may_pass_by(&by->octets_until, rate, octets, turn.now)) &&
+    return (rate == 0 || may_pass_beside_kernel(by, false, rate, octets, turn.clock)) &&
            (of_user == 0 || may_pass(plan.user_octets, by->user, of_user, octets, turn.now));
 }
 
@@ -432,6 +437,9 @@ static void send_later(const turn_client *of, const stun_types_turn_action *acti
     from->to_peer.octets += action->length;
     count(turn.process.mine, TURN_TO_PEER, 1);
     count(turn.process.mine, TURN_TO_PEER_OCTETS, action->length);
+    if (datagram[0] >= CHANNELS) {
+        follow_data(&turn.server, from, (uint16_t)(datagram[0] << 8 | datagram[1]), turn.clock);
+    }
 }
 
 void send_to_peers(void) {
@@ -482,6 +490,7 @@ turn_outcome take_from_client(const turn_client *from, const uint8_t *datagram, 
     keep_reserved(&action);
     keep_socket(from, &action.ipv4);
     keep_socket(from, &action.ipv6);
+    if (is_signed) follow_request(&turn.server, &from->tuple, datagram, length);
     if (answer.code != STUN_TYPES_OK) return TURN_NOTHING_DUE;
     if (action.kind == STUN_TYPES_TURN_TO_PEER) {
         send_later(from, &action, datagram);

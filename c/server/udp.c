@@ -270,6 +270,7 @@ static void serve_turns(void) {
         looked = now;
         look_after_relays();
     }
+    end_all_flows();
 }
 
 /* ---- The run --------------------------------------------------------------------------------- */

@@ -597,6 +597,22 @@ unsigned model_turn_peer(model_turn *turn, uint64_t now, uint64_t relayed,
     return 0;
 }
 
+void model_turn_flow(model_turn *turn, const stun_types_five_tuple *from, unsigned number, stun_types_flow *flow) {
+    size_t i;
+    memset(flow, 0, sizeof *flow);
+    for (i = 0; i < MODEL_TURN_ALLOCATIONS; i++) {
+        model_allocation *it = &turn->all[i];
+        const model_lease *channel = channel_of(it, number);
+        const model_lease *permission = channel == NULL ? NULL : permission_of(it, &channel->peer);
+        if (!is_of(it, from) || permission == NULL) continue;
+        flow->relay = it->relay;
+        flow->peer = channel->peer;
+        flow->expires_at = it->until < channel->until ? it->until : channel->until;
+        if (permission->until < flow->expires_at) flow->expires_at = permission->until;
+        return;
+    }
+}
+
 void model_turn_poll(model_turn *turn, uint64_t now) { advance(turn, now); }
 
 void model_turn_end(model_turn *turn, uint64_t now, uint64_t relayed) {

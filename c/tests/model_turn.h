@@ -69,6 +69,9 @@ unsigned model_turn_peer(model_turn *turn, uint64_t now, uint64_t relay,
                          const stun_types_address *peer, size_t length,
                          stun_types_turn_delivery *delivery);
 
+/* The flow on a channel of a client, as the last of these calls left it: zeros, if there is none. */
+void model_turn_flow(model_turn *turn, const stun_types_five_tuple *from, unsigned number, stun_types_flow *flow);
+
 /* What has expired ends; and the relayed address with a number; and all of a user, or of none for
    MODEL_TURN_USERS. */
 void model_turn_poll(model_turn *turn, uint64_t now);

@@ -624,6 +624,41 @@ static void test_change(const stun_types_allocation *client) {
     CHECK(!stun_types_allocation_changes(handle, change) && is_zero(change, sizeof *change));
 }
 
+/* A flow of which the first or the last bytes are the server's, or the client's, is zeros; and so is one of a client
+   in the server's handle. */
+static void test_flow(void) {
+    static uint64_t numbers[40];
+    void *const at = numbers + 10;
+    stun_types_flow *const flow = at;
+    const size_t size = sizeof *flow / 8;
+    stun_types_five_tuple *client;
+    stun_types_turn *handle;
+    int way;
+    site_begin("stun_types_turn_flow");
+    CHECK(site_allocate(0, 1) == 0 && site_bind(0, 0x4000, &site_peer) == 0);
+    for (way = 0; way < 2; way++) {
+        handle = (void *)(numbers + 10 + (way == 0 ? -1 : (int)size - 1));
+        memset(numbers, FILL, sizeof numbers);
+        *handle = *site.server;
+        CHECK(!stun_types_turn_flow(handle, site.from, 0x4000, flow) && is_zero(flow, sizeof *flow));
+        client = (void *)((char *)at + (way == 0 ? 2 - (int)sizeof *client : (int)sizeof *flow - 2));
+        memset(numbers, FILL, sizeof numbers);
+        *client = *site.from;
+        CHECK(!stun_types_turn_flow(site.server, client, 0x4000, flow) && is_zero(flow, sizeof *flow));
+        client = (void *)((char *)(numbers + 30) + (way == 0 ? 2 - (int)sizeof *client : (int)sizeof *handle - 2));
+        handle = (void *)(numbers + 30);
+        *handle = *site.server;
+        *client = *site.from;
+        CHECK(!stun_types_turn_flow(handle, client, 0x4000, flow) && is_zero(flow, sizeof *flow));
+    }
+    handle = (void *)(numbers + 15);
+    client = (void *)(numbers + 17);
+    *handle = *site.server;
+    *client = *site.from;
+    CHECK(stun_types_turn_flow(handle, client, 0x4000, flow) && flow->expires_at == 300 * SECOND);
+    site_end();
+}
+
 /* What counts what it writes is 0 if it is refused: the number of the socket is read by the next call. And a
    user whose hash is in the handle is nobody. */
 static void test_ends(void) {
@@ -691,4 +726,5 @@ void test_overlaps(void) {
     test_agent(&agent);
     stun_types_ice_free(&agent);
     test_ends();
+    test_flow();
 }

@@ -11,6 +11,13 @@
 
 /* ---- a struct that holds no server */
 
+/* Whether the client has no flow on a channel, which zeros say too. */
+static bool has_no_flow(uint16_t channel) {
+    stun_types_flow *flow = NEW(stun_types_flow);
+    memset(flow, FILL, sizeof *flow);
+    return !stun_types_turn_flow(site.server, site.from, channel, flow) && is_zero(flow, sizeof *flow);
+}
+
 static void check_no_server(const char *name, uint8_t byte) {
     turn_making it;
     uint64_t *ended;
@@ -39,6 +46,7 @@ static void check_no_server(const char *name, uint8_t byte) {
     CHECK(stun_types_turn_ended(site.server, ended, 1, 0) == 0 && is_untouched(ended, 8));
     CHECK(stun_types_turn_next_due(site.server) == UINT64_MAX);
     CHECK(stun_types_turn_count(site.server) == 0);
+    CHECK(has_no_flow(0x4000));
     ANSWERS(stun_types_turn_set_alternate(site.server, &site_peer), PLAIN(STUN_TYPES_BAD_ARGUMENT));
     ANSWERS(stun_types_turn_set_limits(site.server, &site_settings.limits), PLAIN(STUN_TYPES_BAD_ARGUMENT));
     heap_allow(true);
@@ -584,6 +592,39 @@ static void test_new_limits(void) {
     site_end();
 }
 
+/* A channel is a flow, until the permission for its peer ends, and for its client alone. No other form of a
+   5-tuple has one, and to ask takes no memory and ends nothing. */
+static void test_flows(void) {
+    stun_types_flow *flow = NEW(stun_types_flow);
+    static uint16_t *wrong[3];
+    size_t i;
+    uint64_t relay;
+    site_begin("flows");
+    CHECK(site_allocate(0, 1) == 0);
+    relay = site.action->ipv4.relay;
+    CHECK(has_no_flow(0x4000) && site_bind(7, 0x4000, &site_peer) == 0);
+    heap_allow(false);
+    CHECK(stun_types_turn_flow(site.server, site.from, 0x4000, flow) && has_no_flow(0x4001));
+    CHECK(flow->relay == relay && flow->expires_at == 300 * SECOND + 7);
+    CHECK(turn_is_same_address(&flow->peer, &site_peer));
+    wrong[0] = &site.from->client.family;
+    wrong[1] = &site.from->server.family;
+    wrong[2] = &site.from->stream;
+    for (i = 0; i < COUNT(wrong); i++) {
+        const uint16_t right = *wrong[i];
+        *wrong[i] = 2;
+        CHECK(has_no_flow(0x4000));
+        *wrong[i] = right;
+    }
+    site.from->client.port++;
+    CHECK(has_no_flow(0x4000));
+    site.from->client.port--;
+    CHECK(stun_types_turn_flow(site.server, site.from, 0x4000, flow));
+    heap_allow(true);
+    CHECK(stun_types_turn_poll(site.server, 300 * SECOND + 7) == 0 && has_no_flow(0x4000));
+    site_end();
+}
+
 /* Each listening address is denied, by its port. */
 static void test_listening(void) {
     turn_making it;
@@ -617,5 +658,6 @@ void test_turn(void) {
     test_rules();
     test_alternate();
     test_new_limits();
+    test_flows();
     test_listening();
 }

@@ -40,8 +40,8 @@ struct flow_key {
  *
  * A writer fills a slot while `until` is 0, then puts its number into `slots`, then sets `until`; it may set `until`
  * again at any time. To end a flow it sets `until` to 0, takes it out of `slots`, and leaves the slot alone for a second,
- * since the kernel may still be reading it. The kernel writes `over`, `datagrams` and `octets` alone, with atomic
- * additions. */
+ * since the kernel may still be reading it. The kernel adds to `over`, `datagrams` and `octets` atomically, and a writer
+ * exchanges them for 0 to count. */
 struct flow {
     struct flow_key key;
     struct ip ours, theirs;

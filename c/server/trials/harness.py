@@ -40,8 +40,8 @@ def free_port(addresses):
 class Server:
     """The server in C, at one port of some addresses, or as another command starts it."""
 
-    def __init__(self, program, *options, at=("127.0.0.1",), command=(), **how):
-        self.port = free_port(at) if at else None
+    def __init__(self, program, *options, at=("127.0.0.1",), command=(), port=None, **how):
+        self.port = port or (free_port(at) if at else None)
         words = [word for address in at for word in (address, self.port)]
         pipes = {"stdin": subprocess.DEVNULL, "stdout": subprocess.PIPE, "stderr": subprocess.PIPE}
         self.ran = subprocess.Popen([*command, program, *options, *words], text=True, **pipes, **how)

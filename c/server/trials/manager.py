@@ -147,8 +147,9 @@ def run_unit(programs):
 
 
 def unit_file(programs):
-    """The unit says what systemd understands."""
+    """The units say what systemd understands."""
     if not shutil.which("systemd-analyze"):
         raise Skipped("systemd-analyze isn't on this machine")
-    status, out, told = run(["systemd-analyze", "verify", "--man=no", programs["unit"]], 60)
-    check(status == 0 and out + told == "", f"status {status}: {out}{told}")
+    for unit in (programs["unit"], programs["unit"].replace("stun-server.", "stun-server-kernel.")):
+        status, out, told = run(["systemd-analyze", "verify", "--man=no", unit], 60)
+        check(status == 0 and out + told == "", f"{unit}: status {status}: {out}{told}")

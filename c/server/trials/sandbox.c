@@ -135,7 +135,7 @@ static int outcome(int sandbox, int (*try)(void)) {
     if (child == 0) {
         bool udp = sandbox == UDP || sandbox == UDP_RELAY;
         if (sandbox >= LANDLOCK) close_off_system(NULL, 0, NULL);
-        if (sandbox >= UDP) filter_calls(udp ? OWN : -1, sandbox >= UDP_RELAY, &dont_fragment, 1);
+        if (sandbox >= UDP) filter_calls(udp ? OWN : -1, sandbox >= UDP_RELAY, &dont_fragment, 1, false);
         _exit(try() >= 0 ? 0 : errno);
     }
     waitpid(child, &status, 0);

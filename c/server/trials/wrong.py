@@ -15,7 +15,7 @@ ARGUMENTS = [("foo=1", "no setting"), ("rate", "NAME=VALUE"), ("rate=", "0 to 10
              ("packet-rate=1000001", "0 to 1000000"), ("user-packet-rate=x", "0 to 1000000"), ("log-json=2", "0 to 1"),
              ("log-rate=-1", "0 to 1000000"), ("allocation-log=log", "no off, on or syslog"),
              ("proxy=10.0.0.1/8", "10.0.0.0/8 is right"), ("proxy=10.0.0.1:80", "ports after a prefix"),
-             ("proxy=", "no value"), ("drain-seconds=864001", "0 to 864000"), ("nonce-secret=", "no value"),
+             ("proxy=", "no value"), ("kernel=", "no value"), ("kernel=an-interface-too", "at most 15 characters"), ("drain-seconds=864001", "0 to 864000"), ("nonce-secret=", "no value"),
              *((f"alternate={it}", "[2001:db8::7]:3478") for it in
                ("192.0.2.7", "192.0.2.7:0", "192.0.2.7:65536", "2001:db8::7:3478", "[192.0.2.7]", "[2001:db8::7",
                 "[2001:db8::7]3478", ":3478", "host:3478", "[]:1"))]
@@ -26,7 +26,8 @@ LINES = [("foo 1", "foo 1: no setting"), ("deny 10.0.0.1/8", "deny 10.0.0.1/8: t
          ("external-address ::2", "the second of its family, after ::1"), ("#" * 300, "more than 254 bytes"),
          ("allocation-log log", "allocation-log log: no off, on or syslog, and no path"),
          ("packet-rate 1e3", "packet-rate 1e3: no number from 0 to 1000000"), ("log-json yes", "0 to 1"),
-         ("alternate 192.0.2.7", "alternate 192.0.2.7: no ADDRESS:PORT"), ("proxy host", "proxy host: no IP address")]
+         ("alternate 192.0.2.7", "alternate 192.0.2.7: no ADDRESS:PORT"), ("proxy host", "proxy host: no IP address"),
+         ("kernel an-interface-too", "kernel an-interface-too: no name of an interface")]
 FIRST = "realm a # the first\nrelay-address 127.0.0.1\nexternal-address ::1\n"
 USERS = [("alice", "without a password; NAME PASSWORD"), ("alice md5:" + "0" * 30, "md5: with 30 characters; 32 "),
          ("alice md5:" + "g" * 32, "32 hexadecimal digits"), ("alice sha256:" + "0" * 32, "32 characters; 64 "),

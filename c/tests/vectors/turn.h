@@ -89,6 +89,9 @@ unsigned turn_missing(slice response, uint16_t family);
 /* Appends the word for data to a peer: of the last action, for this datagram. */
 void answer_to_peer(const turn_row *it, slice datagram);
 
+/* Appends the word for the flow on a channel, of a row's word TUPLE:NUMBER. */
+void answer_flow(const turn_row *it, char *word);
+
 /* What a peer's datagram becomes, of a row's words SOCKET PEER DATA: the octets that go to a
    client, and to which, or none. */
 typedef struct {

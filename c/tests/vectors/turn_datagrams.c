@@ -246,6 +246,11 @@ static void expect(turn_row *it) {
 
 /* Appends the word for an event; false if no more events are to follow. */
 static bool answer_event(turn_row *it, const char *name) {
+    if (strcmp(name, "flow") == 0) { /* (no call with a time) */
+        answer_space();
+        answer_flow(it, call_word());
+        return true;
+    }
     turn_fill(it);
     if (strcmp(name, "from") == 0) {
         answer_space();
@@ -270,4 +275,5 @@ static void datagrams(void) {
     turn_end_row(&row_);
 }
 
-const verb verbs_of_turn_datagrams[] = {{"datagrams", datagrams, true}, {NULL, NULL, false}};
+const verb verbs_of_turn_datagrams[] = {
+    {"datagrams", datagrams, true}, {"flows", datagrams, true}, {NULL, NULL, false}};

@@ -407,11 +407,16 @@ static size_t greatest_datagram(const stun_types_address *to) {
     return to->family == 4 ? 65507 : 65527;
 }
 
-/* Appends `:ADDRESS:PORT:DATA`. */
-static void answer_data_of(const stun_types_address *peer, slice data) {
+/* Appends `:ADDRESS:PORT:`. */
+static void answer_peer(const stun_types_address *peer) {
     answer_text(":");
     answer_octets(peer->octets, peer->family == 4 ? 4 : 16);
     answer_text(":%u:", (unsigned)peer->port);
+}
+
+/* Appends `:ADDRESS:PORT:DATA`. */
+static void answer_data_of(const stun_types_address *peer, slice data) {
+    answer_peer(peer);
     answer_octets(data.bytes, data.length);
 }
 
@@ -484,6 +489,29 @@ void answer_data(const turn_arrived *arrived) {
     CHECK(turn_find(octets.bytes, octets.length, STUN_TYPES_ATTRIBUTE_DATA, &data));
     answer_text("data:%s", turn_name_of(&arrived->delivery.to));
     answer_data_of(&peer, data);
+}
+
+/* ---- flows */
+
+void answer_flow(const turn_row *it, char *word) {
+    stun_types_five_tuple *client = NEW(stun_types_five_tuple);
+    stun_types_flow *flow = NEW(stun_types_flow);
+    char *channel = strchr(word, ':');
+    if (channel == NULL) {
+        answer_unknown();
+        return;
+    }
+    *channel++ = 0;
+    *client = turn_tuple(turn_tuple_of(word));
+    if (!stun_types_turn_flow(it->server, client, (uint16_t)strtoul(channel, NULL, 16), flow)) {
+        CHECK(is_zero(flow, sizeof *flow));
+        answer_text("no-flow");
+        return;
+    }
+    answer_text("flow:%zu", number_of(it, flow->relay));
+    answer_peer(&flow->peer);
+    answer_text("%lu.%09lu", (unsigned long)(flow->expires_at / 1000000000),
+                (unsigned long)(flow->expires_at % 1000000000));
 }
 
 /* ---- ends */

@@ -43,6 +43,7 @@ pub mod TurnPeers
 pub mod TurnIcmp
 pub mod TurnFields
 pub mod TurnEnding
+pub mod TurnFlows
 pub mod AllocationCodes
 pub mod AllocationMarks
 pub mod AllocationHandles
