@@ -6,9 +6,10 @@ ghost use Rattle.ice_machine.specs.Runs.{begun};
 ghost use Rattle.ice_machine.specs.Steps.{at};
 ghost use Rattle.ice_agent_state.specs.Agents.{setup_of, Held, after};
 
+use crate::compact::CompactRemote;
 use crate::settings::Settings;
 use crate::settling::{drop_late, moment_of, settle_all, waited_until};
-use ice_machine::{Base, Pair, Remote, Request, Role};
+use ice_machine::{Base, Pair, Request, Role};
 use std::alloc::{AllocError, Global};
 use std::marker::Model;
 
@@ -65,7 +66,7 @@ pub struct AgentState {
     /// Whether no more candidates follow.
     pub(crate) ended: bool,
     pub(crate) bases: Vec<Base>,
-    pub(crate) remotes: Vec<Remote>,
+    pub(crate) remotes: Vec<CompactRemote>,
     pub(crate) pairs: Vec<Pair>,
     pub(crate) requests: Vec<Request>,
     pub(crate) next_request_at: u128,
