@@ -149,8 +149,9 @@ impl AgentState {
     /// Only if a request is due, a response is waited for to more requests than ever before, and an allocation of memory
     /// failed. Then only time has passed: the request is still due.
     pub fn poll(&mut self, now: u64, id: u128) -> Result<Option<Request>, AllocError>
-        ensures polled { IfOk result (λ request. (self.new ≡ after now id polls self.old)
-            × (output_at now id polls self.old ≡ asked_with request)) }
+        ensures state { IfOk result (λ _. self.new ≡ after now id polls self.old) }
+        ensures request { IfOk result
+            (λ request. output_at now id polls self.old ≡ asked_with request) }
         ensures waited { IfErr result (λ _. self.new ≡ waited now self.old) }
     {
         self.advance(now);
