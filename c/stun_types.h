@@ -11,7 +11,7 @@
  *   stun_types_turn_ended, stun_types_turn_over and stun_types_turn_end_user return 0.
  * - No call keeps a pointer, prints, blocks or aborts. Only the calls whose comments say so
  *   allocate (by malloc), and at most twice the bytes of their arguments and 1,024 more at once;
- *   stun_types_turn_new, stun_types_allocation_new and stun_types_ice_new allocate more. All may run in several threads at once. One key may be used
+ *   stun_types_turn_new, stun_types_allocation_new, stun_types_ice_new and stun_types_ice_poll allocate more. All may run in several threads at once. One key may be used
  *   by any number of calls at once that take it as const stun_types_key *; a call that takes it as
  *   stun_types_key * makes or frees it, and has it alone.
  * - Numbers in messages are big-endian; numbers in these structs are the machine's.
@@ -1873,7 +1873,7 @@ typedef struct {
 } stun_types_ice_settings;
 
 /* Makes an agent with no candidates. It copies the settings, and allocates all the memory that the agent
-   uses, except for the peer's credentials.
+   uses, except for the peer's credentials, and for more requests under way, which stun_types_ice_poll allocates.
    BAD_ARGUMENT: a number of the settings is out of range, or password is empty. INVALID_DATA: ufrag or
    password isn't one. INVALID_DATA, TOO_LARGE: the software isn't UTF-8, or has more than 763 bytes.
    Allocates: OUT_OF_MEMORY. If the call fails, the agent stays as it was. */
@@ -1981,7 +1981,8 @@ typedef struct {
    never. id: the transaction ID, random and new at each call. Any request without SOFTWARE fits into 700
    bytes.
    BAD_ARGUMENT, and *wake stays: there is no agent. TOO_SMALL: out has no room; the request counts as sent
-   and lost. It allocates nothing. */
+   and lost. Allocates if more requests wait for a response than ever before: OUT_OF_MEMORY, and the request
+   is still due. */
 STUN_TYPES_NODISCARD STUN_TYPES_NONNULL((1, 3, 6, 7))
 stun_types_answer stun_types_ice_poll(stun_types_ice *agent, uint64_t now, const stun_types_id *id,
                                       uint8_t *out, size_t size, stun_types_ice_request *request,

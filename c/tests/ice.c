@@ -251,9 +251,45 @@ static void check_messages(void) {
     stun_types_ice_free(agent);
 }
 
+/* Polls at a moment, with an ID of its own; the moment of the next poll. */
+static uint64_t poll_at(stun_types_ice *agent, uint64_t now, stun_types_answer expected) {
+    stun_types_ice_request *request = NEW(stun_types_ice_request);
+    stun_types_id *own = NEW(stun_types_id);
+    uint64_t *wake = NEW(uint64_t);
+    uint8_t *out = room(88);
+    const bool is_fine = expected.code == STUN_TYPES_OK;
+    memset(own, 0, sizeof *own);
+    memcpy(own, &now, sizeof now);
+    ANSWERS(stun_types_ice_poll(agent, now, own, out, 88, request, wake), expected);
+    CHECK(request->length == (is_fine ? 88 : 0) && (is_fine || is_untouched(out, 88)));
+    return *wake;
+}
+
+/* A fifth request without a response takes memory. If there is none, it is still due. */
+static void test_growth(void) {
+    const slice fragment = text("h6vY"), password = text("KPKLPQPlb6g8DVIXiyRPqZ");
+    stun_types_ice_checked *pair = NEW(stun_types_ice_checked);
+    stun_types_ice *agent = agent_of(good_settings());
+    uint64_t now = 0;
+    row("an ICE agent", "no memory for a fifth request");
+    ANSWERS(stun_types_ice_add_base(agent, 0, good_base()), OK_ANSWER);
+    ANSWERS(stun_types_ice_add_remote(agent, 0, good_remote()), OK_ANSWER);
+    ANSWERS(stun_types_ice_set_peer(agent, 0, fragment.bytes, 4, password.bytes, password.length), OK_ANSWER);
+    heap_allow(true);
+    for (int i = 0; i < 4; i++) now = poll_at(agent, now, OK_ANSWER);
+    CHECK(now == 7500000000 && heap_asked() == 0);
+    heap_refuse(1);
+    CHECK(poll_at(agent, now, PLAIN(STUN_TYPES_OUT_OF_MEMORY)) == now && heap_refused() == 1);
+    CHECK(stun_types_ice_pair(agent, 0, pair) && pair->tries == 4);
+    CHECK(poll_at(agent, now, OK_ANSWER) == 15500000000 && heap_asked() == 2);
+    CHECK(stun_types_ice_pair(agent, 0, pair) && pair->tries == 5);
+    stun_types_ice_free(agent);
+}
+
 static void test_messages(void) {
     row("an ICE agent", "messages that are refused");
     check_messages();
+    test_growth();
 }
 
 /* ---- candidates' texts */

@@ -451,8 +451,10 @@ static bool poll_with(uint64_t number) {
     stun_types_ice_request *request = NEW(stun_types_ice_request);
     uint64_t *wake = NEW(uint64_t);
     uint8_t *out = room(ICE_ROOM);
+    heap_measure(false);
     ANSWERS(stun_types_ice_poll(agent, now, (const void *)id_given.bytes, out, ICE_ROOM, request, wake),
             OK_ANSWER);
+    heap_measure(true);
     CHECK(request->length <= ICE_ROOM && is_untouched(out + request->length, ICE_ROOM - request->length));
     is_awake = true;
     wakes = *wake;

@@ -1,8 +1,9 @@
 -- A session that may be restarted (RFC 8445, section 9), from datagrams to datagrams: the agent of the latest restart,
 -- and the one before it, while data still goes by its pairs.
-use Rattle.std.specs.Prelude.{◌≡◌, ℕ, Bool, true, false, not, ◌&&◌, is_some, List, Option, None, Some, Result, Ok, if◌then◌else◌}
+use Rattle.std.specs.Prelude.{◌≡◌, ℕ, Bool, true, false, not, ◌&&◌, ◌⊎◌, is_some, List, Option, None, Some, Result, Ok, Err, if◌then◌else◌}
 use Rattle.std.specs.Option.{option_map}
 use Rattle.stun_grammar.specs.declared.error.StunWriteError.{StunWriteError}
+use Rattle.stun_grammar.specs.declared.error.StunWriteError.TheVariants.{OutOfMemory}
 use Rattle.stun_endpoints.specs.declared.endpoints.Endpoint.{Endpoint}
 use Rattle.ice_machine.specs.Events.{Output, asks, answers, data_to, data_from, nothing, arrives, polls, sends}
 use Rattle.ice_agent_state.specs.Agents.{Held, output_at}
@@ -17,7 +18,7 @@ use Rattle.ice_agent.specs.declared.restarting.Taker.TheVariants.{Newer, Older, 
 use Rattle.ice_agent.specs.declared.sending.Sending.{Sending}
 use Rattle.ice_agent.specs.Agents.{Agent, passes}
 use Rattle.ice_agent.specs.Receiving.{Receives, judged, received_as}
-use Rattle.ice_agent.specs.Sending.{Polls}
+use Rattle.ice_agent.specs.Sending.{Polls, waited}
 
 -- ---- The two agents
 
@@ -162,6 +163,27 @@ abbrev pub SessionPolls : (now id : ℕ) → Session → (old new : List ℕ)
     → Result (Option Sending) StunWriteError → Type 0
 SessionPolls now id session old new result =
     FirstPolls now id (request_at now id session.newer) session old new result
+
+-- without memory for a request of the older one, or of either: only time passes for that agent
+abbrev pub IsOlderPolled : (now id : ℕ) → (old new : Option Agent) → (slice written : List ℕ)
+    → Result (Option Sending) StunWriteError → Type 0
+IsOlderPolled now id old new slice written result =
+    ((new ≡ older_polled now id old) × OlderPolls now id old slice written result)
+    ⊎ ((result ≡ Err OutOfMemory) × ((new ≡ option_map (waited now) old) × (written ≡ slice)))
+
+abbrev pub SessionWaits : (now id : ℕ) → (old new : Session) → Type 0
+SessionWaits now id old new = (new ≡ record old { newer = waited now old.newer })
+    ⊎ ((request_at now id old.newer ≡ nothing) × (new ≡ record {
+      newer = passes now id polls old.newer;
+      older = option_map (waited now) old.older;
+    }))
+
+-- a poll of a session
+abbrev pub IsSessionPolled : (now id : ℕ) → (old new : Session) → (slice written : List ℕ)
+    → Result (Option Sending) StunWriteError → Type 0
+IsSessionPolled now id old new slice written result =
+    ((new ≡ session_after now id old) × SessionPolls now id old slice written result)
+    ⊎ ((result ≡ Err OutOfMemory) × (SessionWaits now id old new × (written ≡ slice)))
 
 -- ---- Data goes by the newer one's route, or else by the older one's
 

@@ -27,7 +27,8 @@ use stun_types::attribute::Software;
 /// Moments are nanoseconds from a beginning of the caller's choice. A moment before the latest one counts as
 /// that one.
 ///
-/// [`Agent::new`] takes all memory; no other call allocates.
+/// [`Agent::new`] takes all memory but that for many requests under way, which [`Agent::poll`] takes as it needs it. No
+/// other call allocates.
 ///
 /// An event loop passes each datagram of its bases to [`Agent::on_datagram`], and sends the response that it
 /// writes, from the same base to where the datagram came from. At [`Agent::next_wake`], and after each call that

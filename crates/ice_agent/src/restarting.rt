@@ -7,14 +7,14 @@ ghost use Rattle.ice_agent_state.specs.Restarts.{IsSessionWake};
 ghost use Rattle.ice_agent_state.specs.Restarts as states;
 ghost use Rattle.ice_agent.specs.Agents.{passes};
 ghost use Rattle.ice_agent.specs.Restarts as restarts;
-ghost use Rattle.ice_agent.specs.Restarts.{OlderPolls, ReturnsBy, SessionPolls, SessionReceives};
+ghost use Rattle.ice_agent.specs.Restarts.{IsOlderPolled, IsSessionPolled, ReturnsBy, SessionReceives};
 
 use crate::agent::Agent;
 use crate::receiving::Received;
 use crate::sending::Sending;
 use ice_agent_state::{Route, earlier, first_route, is_replaced};
 use ice_checks::Judged;
-use std::alloc::Global;
+use std::alloc::{AllocError, Global};
 use stun_endpoints::Endpoint;
 use stun_types::message::{StunWriteError, TransactionId};
 
@@ -160,8 +160,7 @@ fn poll_older(
     older: &mut Option<Agent>,
     out: &mut [u8],
 ) -> Result<Option<Sending>, StunWriteError>
-    ensures state { older.new ≡ restarts.older_polled now id older.old }
-    ensures bytes { OlderPolls now id older.old out.old out.new result }
+    ensures { IsOlderPolled now id older.old older.new out.old out.new result }
 {
     match older {
         Some(agent) => agent.poll(alloc, now, id, out),
@@ -277,13 +276,13 @@ impl Session {
         id: TransactionId,
         out: &mut [u8],
     ) -> Result<Option<Sending>, StunWriteError>
-        ensures state { self.new ≡ restarts.session_after now id (restarts.relieved self.old) }
-        ensures bytes { SessionPolls now id (restarts.relieved self.old) out.old out.new result }
+        ensures { IsSessionPolled now id (restarts.relieved self.old) self.new out.old out.new result }
     {
         self.relieve();
         match self.newer.request(now, id) {
-            Some(request) => self.newer.write(alloc, &request, out),
-            None => poll_older(alloc, now, id, &mut self.older, out),
+            Ok(Some(request)) => self.newer.write(alloc, &request, out),
+            Ok(None) => poll_older(alloc, now, id, &mut self.older, out),
+            Err(AllocError) => Err(StunWriteError::OutOfMemory),
         }
     }
 

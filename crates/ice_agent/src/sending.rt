@@ -1,16 +1,16 @@
 //! The requests that an agent sends.
 
-ghost use Rattle.std.specs.Prelude.{◌≡◌, IfSome, is_some, true};
+ghost use Rattle.std.specs.Prelude.{◌≡◌, IfOk, IfErr, IfSome, is_some, true};
 ghost use Rattle.ice_machine.specs.Events.{polls};
 ghost use Rattle.ice_agent_state.specs.Agents.{output_at};
 ghost use Rattle.ice_agent_state.specs.Outputs.{asked_with};
 ghost use Rattle.ice_agent.specs.Agents.{passes};
-ghost use Rattle.ice_agent.specs.Sending.{IsSent, Polls};
+ghost use Rattle.ice_agent.specs.Sending.{IsPolled, IsSent, waited};
 
 use crate::agent::Agent;
 use crate::writing::write_request;
 use ice_machine::Request;
-use std::alloc::Global;
+use std::alloc::{AllocError, Global};
 use stun_endpoints::Endpoint;
 use stun_types::message::{StunWriteError, TransactionId};
 
@@ -27,10 +27,17 @@ pub struct Sending {
 
 impl Agent {
     /// The request that is to be sent now.
-    pub(crate) fn request(&mut self, now: u64, id: TransactionId) -> Option<Request>
-        ensures state { self.new ≡ passes now id polls self.old }
-        ensures request { output_at now id polls self.old.held ≡ asked_with result }
-        ensures known { IfSome result (λ _. is_some self.new.logins.peer ≡ true) }
+    pub(crate) fn request(
+        &mut self,
+        now: u64,
+        id: TransactionId,
+    ) -> Result<Option<Request>, AllocError>
+        ensures state { IfOk result (λ _. self.new ≡ passes now id polls self.old) }
+        ensures request { IfOk result
+            (λ request. output_at now id polls self.old.held ≡ asked_with request) }
+        ensures known { IfOk result
+            (λ request. IfSome request (λ _. is_some self.new.logins.peer ≡ true)) }
+        ensures waited { IfErr result (λ _. self.new ≡ waited now self.old) }
     {
         self.state.poll(now, id.value())
     }
@@ -71,13 +78,15 @@ impl Agent {
     /// none. `id` is its transaction ID: a random number that no other call has. Call it until it returns `None` and
     /// [`Agent::next_wake`] is later than `now`.
     ///
-    /// No memory is taken from `alloc`.
+    /// No memory is taken from `alloc`. The agent takes more from its own if a response is waited for to more requests
+    /// than ever before.
     ///
     /// # Errors
     ///
-    /// `TooSmall { expected, actual }` if `out` has no room for the request: its length, and that of `out`, which
-    /// stays as it was. The request counts as sent, and lost. With fragments of at most 32 characters and without
-    /// a SOFTWARE none is longer than 148 bytes.
+    /// - `TooSmall { expected, actual }` if `out` has no room for the request: its length, and that of `out`, which
+    ///   stays as it was. The request counts as sent, and lost. With fragments of at most 32 characters and without
+    ///   a SOFTWARE none is longer than 148 bytes.
+    /// - `OutOfMemory` if an allocation failed. Only time has passed: the request is still due.
     pub fn poll(
         &mut self,
         alloc: Global,
@@ -85,12 +94,12 @@ impl Agent {
         id: TransactionId,
         out: &mut [u8],
     ) -> Result<Option<Sending>, StunWriteError>
-        ensures state { self.new ≡ passes now id polls self.old }
-        ensures bytes { Polls self.old (output_at now id polls self.old.held) out.old out.new result }
+        ensures { IsPolled now id self.old self.new out.old out.new result }
     {
         match self.request(now, id) {
-            Some(request) => self.write(alloc, &request, out),
-            None => Ok(None),
+            Ok(Some(request)) => self.write(alloc, &request, out),
+            Ok(None) => Ok(None),
+            Err(AllocError) => Err(StunWriteError::OutOfMemory),
         }
     }
 }

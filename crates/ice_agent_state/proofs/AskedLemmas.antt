@@ -115,15 +115,15 @@ each_replaced P test y one (x ∷ xs) each = cond_both (test x) (y ∷ xs) (x �
 
 -- ---- A loop that changes the first that passes
 
-pub first_here : (test : Pair → Bool) (change : Pair → Pair) (xs : List Pair) (i : ℕ) (d : Pair) → i < length xs → test (get_or xs i d) ≡ true
+pub first_here : {X : Type 0} (test : X → Bool) (change : X → X) (xs : List X) (i : ℕ) (d : X) → i < length xs → test (get_or xs i d) ≡ true
     → set xs i (change (get_or xs i d)) ≡ take i xs ++ changed_first test change (drop i xs)
 first_here test change [] i d lt is = absurd (omega (arith, lt))
 first_here test change (x ∷ xs) zero d lt is = sym (cond-true (test x) (change x ∷ xs) (x ∷ changed_first test change xs) is)
-first_here test change (x ∷ xs) (suc i) d lt is = ap (λ (zs : List Pair). x ∷ zs) (first_here test change xs i d (omega (arith, lt)) is)
+first_here {X} test change (x ∷ xs) (suc i) d lt is = ap (λ (zs : List X). x ∷ zs) (first_here test change xs i d (omega (arith, lt)) is)
 
-pub changed_length : (test : Pair → Bool) (change : Pair → Pair) (xs : List Pair) → length (changed_first test change xs) ≡ length xs
+pub changed_length : {X : Type 0} (test : X → Bool) (change : X → X) (xs : List X) → length (changed_first test change xs) ≡ length xs
 changed_length test change [] = refl
-changed_length test change (x ∷ xs) = cond_both (test x) (change x ∷ xs) (x ∷ changed_first test change xs) (λ (ys : List Pair). length ys ≡ length (x ∷ xs)) (λ _. refl) (λ _. ap suc (changed_length test change xs))
+changed_length {X} test change (x ∷ xs) = cond_both (test x) (change x ∷ xs) (x ∷ changed_first test change xs) (λ (ys : List X). length ys ≡ length (x ∷ xs)) (λ _. refl) (λ _. ap suc (changed_length test change xs))
 
 -- ---- What a request changes
 

@@ -6,3 +6,4 @@ pub mod AskedLemmas
 pub mod WakingLemmas
 pub mod QuietLemmas
 pub mod ReportsLemmas
+pub mod KeptLemmas

@@ -3,7 +3,7 @@ use Rattle.std.specs.Prelude.{◌≡◌, ℕ, List, map, Bool, true, false, Resu
 use Rattle.ice_machine.specs.declared.pairs.Pair.{Pair}
 use Rattle.ice_machine.specs.Agents.{Setup, State}
 use Rattle.ice_machine.specs.Events.{Event, Output}
-use Rattle.ice_machine.specs.Steps.{step, settled}
+use Rattle.ice_machine.specs.Steps.{step, settled, at}
 use Rattle.ice_agent_state.specs.declared.settings.Settings.{Settings}
 use Rattle.ice_agent_state.specs.declared.candidates.AddError.{AddError}
 use Rattle.ice_agent_state.specs.declared.candidates.AddError.TheVariants.{Full, InUse}
@@ -32,6 +32,10 @@ after now fresh event held =
 -- the output at an event
 abbrev pub output_at : (now fresh : ℕ) → Event → Held → Output
 output_at now fresh event held = (step held.setup held.state now fresh event).output
+
+-- when time has passed, and nothing else has happened
+abbrev pub waited : (now : ℕ) → Held → Held
+waited now held = record held { state = at held.setup now held.state }
 
 -- what the adding of a candidate returns, by whether there is room, and whether there is such a candidate
 abbrev pub added : (has_room has_it : Bool) → Result (Unit {0}) AddError

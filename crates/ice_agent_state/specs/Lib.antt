@@ -7,5 +7,6 @@ pub mod Waking
 pub mod Quiet
 pub mod Places
 pub mod Statuses
+pub mod Kept
 pub mod Reports
 pub mod Restarts

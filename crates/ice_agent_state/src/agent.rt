@@ -6,9 +6,11 @@ ghost use Rattle.ice_machine.specs.Runs.{begun};
 ghost use Rattle.ice_machine.specs.Steps.{at};
 ghost use Rattle.ice_agent_state.specs.Agents.{setup_of, Held, after};
 
+use crate::compact::CompactRemote;
+use crate::lists::FIRST_ROOM;
 use crate::settings::Settings;
 use crate::settling::{drop_late, moment_of, settle_all, waited_until};
-use ice_machine::{Base, Pair, Remote, Request, Role};
+use ice_machine::{Base, Pair, Request, Role};
 use std::alloc::{AllocError, Global};
 use std::marker::Model;
 
@@ -17,7 +19,8 @@ use std::marker::Model;
 /// Moments are nanoseconds from a beginning of the caller's choice. A moment before the latest one counts as
 /// that one.
 ///
-/// [`AgentState::new`] takes all memory; no other call allocates.
+/// [`AgentState::new`] takes all memory but that for many requests under way: [`AgentState::poll`] takes it, when there
+/// are more than ever before. No other call allocates.
 ///
 /// ```
 /// use ice_agent_state::{AddError, AgentState, Settings};
@@ -42,15 +45,15 @@ use std::marker::Model;
 /// assert_eq!(rt; agent.add_base(0, base), Ok(()));
 /// assert_eq!(rt; agent.add_base(0, base), Err(AddError::InUse));
 /// assert_eq!(rt; agent.add_remote(0, remote), Ok(()));
-/// assert!(rt; agent.poll(0, 1).is_none());
+/// assert!(rt; agent.poll(0, 1)?.is_none());
 ///
 /// // The peer's credentials are known: a check is sent, and again after 500 ms and another second.
 /// agent.set_peer(0);
-/// assert!(rt; matches!(agent.poll(0, 1), Some(request) if request.to == address));
-/// assert!(rt; agent.poll(499_999_999, 2).is_none());
-/// assert!(rt; agent.poll(500_000_000, 2).is_some());
-/// assert!(rt; agent.poll(1_499_999_999, 3).is_none());
-/// assert!(rt; agent.poll(1_500_000_000, 3).is_some());
+/// assert!(rt; matches!(agent.poll(0, 1)?, Some(request) if request.to == address));
+/// assert!(rt; agent.poll(499_999_999, 2)?.is_none());
+/// assert!(rt; agent.poll(500_000_000, 2)?.is_some());
+/// assert!(rt; agent.poll(1_499_999_999, 3)?.is_none());
+/// assert!(rt; agent.poll(1_500_000_000, 3)?.is_some());
 /// // No pair is selected yet.
 /// assert_eq!(rt; agent.route(1_500_000_000, 1), None);
 /// ```
@@ -65,7 +68,7 @@ pub struct AgentState {
     /// Whether no more candidates follow.
     pub(crate) ended: bool,
     pub(crate) bases: Vec<Base>,
-    pub(crate) remotes: Vec<Remote>,
+    pub(crate) remotes: Vec<CompactRemote>,
     pub(crate) pairs: Vec<Pair>,
     pub(crate) requests: Vec<Request>,
     pub(crate) next_request_at: u128,
@@ -107,7 +110,6 @@ impl Model for AgentState {
       bases : a.settings.most_candidates ≤ vec_capacity a.bases;
       remotes : a.settings.most_candidates ≤ vec_capacity a.remotes;
       pairs : a.settings.most_pairs ≤ vec_capacity a.pairs;
-      requests : a.settings.most_requests ≤ vec_capacity a.requests;
       few : length a.requests.items ≤ a.settings.most_requests;
       tries : a.settings.most_tries ≤ 32;
       distinct : AreDistinct a.pairs.items;
@@ -142,7 +144,7 @@ impl AgentState {
         let bases = Vec::with_capacity(alloc, settings.most_candidates as usize)?;
         let remotes = Vec::with_capacity(alloc, settings.most_candidates as usize)?;
         let pairs = Vec::with_capacity(alloc, settings.most_pairs as usize)?;
-        let requests = Vec::with_capacity(alloc, settings.most_requests as usize)?;
+        let requests = Vec::with_capacity(alloc, FIRST_ROOM.min(settings.most_requests as usize))?;
         Ok(AgentState {
             settings,
             clock: 0,

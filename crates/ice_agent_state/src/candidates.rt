@@ -7,10 +7,12 @@ ghost use Rattle.ice_machine.specs.declared.pairs.Pair.{Pair};
 ghost use Rattle.ice_machine.specs.Events.{gathers, learns};
 ghost use Rattle.ice_machine.specs.Agents.{is_at};
 ghost use Rattle.ice_machine.specs.Pairs as machine;
-ghost use Rattle.ice_machine.specs.Steps.{has_room, is_base, is_remote};
+ghost use Rattle.ice_machine.specs.Steps.{has_room, is_base};
+ghost use Rattle.ice_machine.specs.Steps as steps;
 ghost use Rattle.ice_agent_state.specs.Agents.{after, added};
 
 use crate::agent::AgentState;
+use crate::compact::CompactRemote;
 use crate::lists::put_first;
 use crate::polling;
 use ice_machine::{Base, Pair, PairState, Remote};
@@ -91,7 +93,7 @@ pub(crate) fn add_pair(most: u32, pair: Pair, first: usize, pairs: &mut Vec<Pair
 }
 
 /// Inserts the pairs of a base with the peer's candidates, those of the last first.
-fn pair_base(most: u32, base: Base, remotes: &[Remote], pairs: &mut Vec<Pair>)
+fn pair_base(most: u32, base: Base, remotes: &[CompactRemote], pairs: &mut Vec<Pair>)
     requires room { most ≤ vec_capacity pairs.old }
     ensures items { pairs.new.items ≡ machine.with_pairs most
         (map {B = Pair} (machine.pair_of base) (filter (machine.fits base) remotes.now))
@@ -101,7 +103,7 @@ fn pair_base(most: u32, base: Base, remotes: &[Remote], pairs: &mut Vec<Pair>)
     let mut at = remotes.len();
     while at > 0 {
         at -= 1;
-        let remote = remotes[at];
+        let remote = remotes[at].get();
         if fits(base, remote) {
             add_pair(most, new_pair(base, remote), 0, pairs);
         }
@@ -132,12 +134,18 @@ fn has_base(bases: &[Base], number: u32) -> bool
     bases.iter().any(|b| b.number == number)
 }
 
-fn has_remote(remotes: &[Remote], component: u16, address: Endpoint) -> bool
-    ensures { result ≡ list_any (is_remote component address) remotes.now }
+fn is_remote(component: u16, address: Endpoint, remote: Remote) -> bool
+    ensures { result ≡ steps.is_remote component address remote }
+{
+    remote.component == component && address == remote.address
+}
+
+fn has_remote(remotes: &[CompactRemote], component: u16, address: Endpoint) -> bool
+    ensures { result ≡ list_any (steps.is_remote component address) remotes.now }
 {
     remotes
         .iter()
-        .any(|r| r.component == component && address == r.address)
+        .any(|r| is_remote(component, address, r.get()))
 }
 
 impl AgentState {
@@ -181,7 +189,7 @@ impl AgentState {
     pub fn add_remote(&mut self, now: u64, remote: Remote) -> Result<(), AddError>
         ensures state { self.new ≡ after now 0 (learns remote) self.old }
         ensures result { result ≡ added (has_room self.old.setup self.old.state.remotes)
-            (list_any (is_remote remote.component remote.address) self.old.state.remotes) }
+            (list_any (steps.is_remote remote.component remote.address) self.old.state.remotes) }
     {
         self.advance(now);
         if self.remotes.len() >= self.settings.most_candidates as usize {
@@ -190,7 +198,7 @@ impl AgentState {
         if has_remote(&self.remotes, remote.component, remote.address) {
             return Err(AddError::InUse);
         }
-        put_first(&mut self.remotes, remote);
+        put_first(&mut self.remotes, CompactRemote::new(remote));
         pair_remote(
             self.settings.most_pairs,
             remote,

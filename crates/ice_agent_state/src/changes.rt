@@ -5,11 +5,11 @@ ghost use Rattle.std.specs.Vec.{vec_capacity};
 ghost use Rattle.ice_agent_state.specs.Reports as reports;
 
 use crate::agent::AgentState;
-use crate::discoveries::{Found, found_change};
+use crate::compact::{CompactAddress, CompactReport, CompactRoute};
+use crate::discoveries::found_change;
 use crate::routing::Route;
 use crate::settings::Settings;
 use crate::status::Status;
-use crate::turns::Reported;
 use ice_machine::Role;
 use std::alloc::{AllocError, Global};
 use std::marker::Model;
@@ -64,10 +64,9 @@ pub enum Change {
 #[derive(Drop)]
 pub struct Changes {
     pub(crate) role: Role,
-    pub(crate) statuses: Vec<Reported>,
-    pub(crate) losses: Vec<Route>,
-    pub(crate) addresses: Vec<Endpoint>,
-    pub(crate) found: Vec<Found>,
+    pub(crate) statuses: Vec<CompactReport>,
+    pub(crate) losses: Vec<CompactRoute>,
+    pub(crate) addresses: Vec<CompactAddress>,
     pub(crate) most_statuses: u32,
     pub(crate) most_losses: u32,
     pub(crate) most_addresses: u32,
@@ -77,6 +76,7 @@ impl Model for Changes {
     ghost use Rattle.std.specs.Prelude.{◌≤◌, length};
     ghost use Rattle.std.specs.Vec.{vec_capacity};
     ghost use Rattle.ice_agent_state.specs.Reports.{Reports};
+    ghost use Rattle.ice_agent_state.specs.Kept.{addresses_of, founds_of};
 
     ghost Value = { Reports };
 
@@ -84,8 +84,8 @@ impl Model for Changes {
       role = c.role;
       statuses = c.statuses.items;
       losses = c.losses.items;
-      addresses = c.addresses.items;
-      found = c.found.items;
+      addresses = addresses_of c.addresses.items;
+      found = founds_of c.addresses.items;
       most_statuses = c.most_statuses;
       most_losses = c.most_losses;
       most_addresses = c.most_addresses;
@@ -95,10 +95,8 @@ impl Model for Changes {
       statuses : c.most_statuses ≤ vec_capacity c.statuses;
       losses : c.most_losses ≤ vec_capacity c.losses;
       addresses : c.most_addresses ≤ vec_capacity c.addresses;
-      found : c.most_addresses ≤ vec_capacity c.found;
       few_statuses : length c.statuses.items ≤ c.most_statuses;
       few_losses : length c.losses.items ≤ c.most_losses;
-      few_found : length c.found.items ≤ length c.addresses.items;
     } };
 }
 
@@ -117,13 +115,11 @@ impl Changes {
         let statuses = Vec::with_capacity(alloc, settings.most_candidates as usize)?;
         let losses = Vec::with_capacity(alloc, settings.most_pairs as usize)?;
         let addresses = Vec::with_capacity(alloc, settings.most_pairs as usize)?;
-        let found = Vec::with_capacity(alloc, settings.most_pairs as usize)?;
         Ok(Changes {
             role,
             statuses,
             losses,
             addresses,
-            found,
             most_statuses: settings.most_candidates,
             most_losses: settings.most_pairs,
             most_addresses: settings.most_pairs,
@@ -143,7 +139,7 @@ impl Changes {
         if let Some(change) = agent.status_change(&self.statuses) {
             return Some(change);
         }
-        found_change(&self.found)
+        found_change(&self.addresses)
     }
 
     /// Marks a change as reported.

@@ -1,13 +1,16 @@
 //! Local peer-reflexive candidates (RFC 8445, section 7.2.5.3.1).
 
-ghost use Rattle.std.specs.Prelude.{◌≡◌, drop};
+ghost use Rattle.std.specs.Prelude.{◌≡◌, drop, find, option_copied};
 ghost use Rattle.std.specs.List.{list_any};
 ghost use Rattle.stun_endpoints.specs.Endpoints.{is_endpoint};
 ghost use Rattle.ice_agent_state.specs.Agents.{added};
+ghost use Rattle.ice_agent_state.specs.Kept.{Kept, addresses_of, founds_of, is_found, reported};
+ghost use Rattle.ice_machine.specs.Steps.{changed_first};
 ghost use Rattle.ice_agent_state.specs.Reports as reports;
 
 use crate::candidates::AddError;
 use crate::changes::{Change, Changes};
+use crate::compact::CompactAddress;
 use crate::lists::put_first;
 use stun_endpoints::Endpoint;
 
@@ -18,19 +21,44 @@ pub(crate) struct Found {
     pub(crate) address: Endpoint,
 }
 
-pub(crate) fn found_change(found: &[Found]) -> Option<Change>
-    ensures { result ≡ reports.found_change found.now }
+fn find_found(addresses: &[CompactAddress]) -> Option<&CompactAddress>
+    ensures { option_copied result ≡ find is_found addresses.now }
 {
-    match found {
-        [] => None,
-        [first, ..] => Some(Change::Discovered(first.base, first.address)),
+    addresses.iter().find(|k| k.is_found())
+}
+
+/// The newest one that isn't reported yet.
+pub(crate) fn found_change(addresses: &[CompactAddress]) -> Option<Change>
+    ensures { result ≡ reports.found_change (founds_of addresses.now) }
+{
+    match find_found(addresses) {
+        None => None,
+        Some(first) => Some(Change::Discovered(first.base(), first.address())),
     }
 }
 
-fn is_kept(addresses: &[Endpoint], address: Endpoint) -> bool
-    ensures { result ≡ list_any (is_endpoint address) addresses.now }
+/// Marks the newest one that isn't reported yet as reported.
+fn mark_first(addresses: &mut [CompactAddress])
+    ensures { addresses.new ≡ changed_first is_found reported addresses.old }
 {
-    addresses.iter().any(|a| address == *a)
+    for i in 0..addresses.len() {
+        if addresses[i].is_found() {
+            addresses[i].mark();
+            return;
+        }
+    }
+}
+
+fn is_among(addresses: &[CompactAddress], address: Endpoint) -> bool
+    ensures { result ≡ list_any (λ (k : Kept). is_endpoint address k.address) addresses.now }
+{
+    addresses.iter().any(|k| address == k.address())
+}
+
+fn is_kept(addresses: &[CompactAddress], address: Endpoint) -> bool
+    ensures { result ≡ list_any (is_endpoint address) (addresses_of addresses.now) }
+{
+    is_among(addresses, address)
 }
 
 impl Changes {
@@ -52,7 +80,7 @@ impl Changes {
         if is_kept(&self.addresses, address) {
             return Err(AddError::InUse);
         }
-        put_first(&mut self.addresses, address);
+        put_first(&mut self.addresses, CompactAddress::known(address));
         Ok(())
     }
 
@@ -67,22 +95,16 @@ impl Changes {
         {
             return;
         }
-        put_first(&mut self.addresses, mapped);
-        put_first(
-            &mut self.found,
-            Found {
-                base,
-                address: mapped,
-            },
-        );
+        let found = Found {
+            base,
+            address: mapped,
+        };
+        put_first(&mut self.addresses, CompactAddress::found(found));
     }
 
     pub(crate) fn mark_found(&mut self)
         ensures { self.new ≡ record self.old { found = drop 1 self.old.found } }
     {
-        if self.found.is_empty() {
-            return;
-        }
-        self.found.remove(0);
+        mark_first(&mut self.addresses);
     }
 }

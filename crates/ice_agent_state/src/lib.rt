@@ -15,6 +15,7 @@ mod candidates;
 mod changes;
 mod checking;
 mod choosing;
+mod compact;
 mod discoveries;
 mod laws;
 mod lists;

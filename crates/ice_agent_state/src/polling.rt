@@ -1,20 +1,21 @@
 //! Requests.
 
-ghost use Rattle.std.specs.Prelude.{◌≡◌, ◌+◌, ◌*◌, ◌<◌, ◌≤◌, ◌^◌, ◌∷◌, take, length, Some};
+ghost use Rattle.std.specs.Prelude.{◌≡◌, ◌+◌, ◌*◌, ◌<◌, ◌≤◌, ◌^◌, ◌∷◌, take, length, Some, IfOk, IfErr};
 ghost use Rattle.std.specs.Vec.{vec_capacity};
 ghost use Rattle.ice_machine.specs.Agents as state;
 ghost use Rattle.ice_machine.specs.Checks as checks;
 ghost use Rattle.ice_machine.specs.Events.{polls};
 ghost use Rattle.ice_machine.specs.Steps.{changed_first, asks_on};
-ghost use Rattle.ice_agent_state.specs.Agents.{setup_of, after, output_at, IsSettled};
+ghost use Rattle.ice_agent_state.specs.Agents.{setup_of, after, output_at, waited, IsSettled};
 ghost use Rattle.ice_agent_state.specs.Outputs.{asked_with};
 
 use crate::agent::AgentState;
 use crate::choosing::{is_lost, is_succeeded};
-use crate::lists::keep;
+use crate::lists::{keep, make_room};
 use crate::settings::Settings;
 use crate::settling::{WAIT, moment_of};
 use ice_machine::{Pair, PairState, Request};
+use std::alloc::AllocError;
 use stun_endpoints::Endpoint;
 
 /// Whether a pair is that of a base and a remote address.
@@ -118,38 +119,48 @@ impl AgentState {
         }
     }
 
-    /// Sends a request on the most urgent pair.
-    fn ask(&mut self, id: u128, pair: Pair) -> Request
+    /// Sends a request on the most urgent pair. Does nothing if there is no memory for it.
+    fn ask(&mut self, id: u128, pair: Pair) -> Result<Request, AllocError>
         requires urgent { checks.most_urgent self.old.setup self.old.state ≡ Some pair }
         requires settled { IsSettled self.old }
-        ensures state { self.new ≡ record self.old {
+        ensures state { IfOk result (λ _. self.new ≡ record self.old {
           state = (asks_on self.old.setup id self.old.state pair).state;
-        } }
-        ensures request { result ≡ checks.request_on self.old.setup self.old.state id pair }
+        }) }
+        ensures request { IfOk result
+            (λ request. request ≡ checks.request_on self.old.setup self.old.state id pair) }
+        ensures nothing { IfErr result (λ _. self.new ≡ self.old) }
     {
         let request = self.request_on(id, &pair);
         let asked = self.asked(id, pair);
         let until = moment_of(self.loss_of(&asked)).min(self.clock + WAIT);
+        make_room(self.settings.most_requests, &mut self.requests)?;
         self.quiet_until = self.quiet_until.min(until);
         replace(&mut self.pairs, pair.base, pair.remote, asked);
         keep(self.settings.most_requests, request, &mut self.requests);
         self.next_request_at = self.clock + pace_of(&self.settings);
-        request
+        Ok(request)
     }
 
     /// Returns the request to send now, if there is one: a Binding request with the transaction ID `id`, a
     /// random number of 96 bits. Call it until it returns `None`.
-    pub fn poll(&mut self, now: u64, id: u128) -> Option<Request>
-        ensures state { self.new ≡ after now id polls self.old }
-        ensures request { output_at now id polls self.old ≡ asked_with result }
+    ///
+    /// # Errors
+    ///
+    /// Only if a request is due, a response is waited for to more requests than ever before, and an allocation of memory
+    /// failed. Then only time has passed: the request is still due.
+    pub fn poll(&mut self, now: u64, id: u128) -> Result<Option<Request>, AllocError>
+        ensures state { IfOk result (λ _. self.new ≡ after now id polls self.old) }
+        ensures request { IfOk result
+            (λ request. output_at now id polls self.old ≡ asked_with request) }
+        ensures waited { IfErr result (λ _. self.new ≡ waited now self.old) }
     {
         self.advance(now);
         if !self.ready || self.clock < self.next_request_at {
-            return None;
+            return Ok(None);
         }
         match self.most_urgent() {
-            Some(pair) => Some(self.ask(id, pair)),
-            None => None,
+            Some(pair) => Ok(Some(self.ask(id, pair)?)),
+            None => Ok(None),
         }
     }
 }

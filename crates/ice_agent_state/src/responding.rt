@@ -1,7 +1,6 @@
 //! Responses of the peer (RFC 8445, section 7.2.5).
 
 ghost use Rattle.std.specs.Prelude.{◌≡◌, ◌==◌, find, map, filter, not, Option, option_copied};
-ghost use Rattle.std.specs.Vec.{vec_capacity};
 ghost use Rattle.ice_machine.specs.declared.pairs.Pair.{Pair};
 ghost use Rattle.ice_machine.specs.Events.{responds, nothing};
 ghost use Rattle.ice_machine.specs.Agents as state;
@@ -187,9 +186,7 @@ fn has_other_id(request: &Request, id: u128) -> bool
 
 /// Ends the waiting for a response.
 fn end_waiting(requests: &mut Vec<Request>, id: u128)
-    ensures items { requests.new.items
-        ≡ filter (λ r. not (steps.is_request id r)) requests.old.items }
-    ensures capacity { vec_capacity requests.new ≡ vec_capacity requests.old }
+    ensures { requests.new.items ≡ filter (λ r. not (steps.is_request id r)) requests.old.items }
 {
     requests.retain_mut(|r| has_other_id(r, id));
 }

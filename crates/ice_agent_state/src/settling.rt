@@ -2,7 +2,6 @@
 
 ghost use Rattle.std.specs.Prelude.{◌≡◌, ℕ, map, filter};
 ghost use Rattle.std.specs.List.{AllByRecursion};
-ghost use Rattle.std.specs.Vec.{vec_capacity};
 ghost use Rattle.ice_machine.specs.Agents.{seconds};
 ghost use Rattle.ice_machine.specs.Steps.{settled, is_awaited};
 ghost use Rattle.ice_machine.specs.declared.pairs.Pair.{Pair};
@@ -68,8 +67,7 @@ fn is_waited_for(now: u128, request: &Request) -> bool
 
 /// Removes the requests whose responses don't count any more.
 pub(crate) fn drop_late(requests: &mut Vec<Request>, now: u128)
-    ensures items { requests.new.items ≡ filter (is_awaited now) requests.old.items }
-    ensures capacity { vec_capacity requests.new ≡ vec_capacity requests.old }
+    ensures { requests.new.items ≡ filter (is_awaited now) requests.old.items }
 {
     requests.retain_mut(|r| is_waited_for(now, r));
 }

@@ -6,6 +6,7 @@ ghost use Rattle.ice_agent_state.specs.Reports as reports;
 
 use crate::agent::AgentState;
 use crate::changes::{Change, Changes};
+use crate::compact::CompactReport;
 use crate::lists::keep;
 use crate::routing::Route;
 use crate::status::Status;
@@ -18,7 +19,7 @@ pub(crate) struct Reported {
     pub(crate) status: Status,
 }
 
-fn is_route(one: Route, other: Route) -> bool
+pub(crate) fn is_route(one: Route, other: Route) -> bool
     ensures { result ≡ reports.is_route one other }
 {
     one.base == other.base && one.to == other.to
@@ -47,24 +48,24 @@ fn is_status(one: Status, other: Status) -> bool
     }
 }
 
-fn is_of_another(component: u16, reported: &Reported) -> bool
+fn is_of_another(component: u16, reported: &CompactReport) -> bool
     ensures { result ≡ not (reports.is_of component reported.now) }
 {
-    !(reported.component == component)
+    !(reported.component() == component)
 }
 
-fn find_reported(component: u16, statuses: &[Reported]) -> Option<&Reported>
+fn find_reported(component: u16, statuses: &[CompactReport]) -> Option<&CompactReport>
     ensures { option_copied result ≡ find (reports.is_of component) statuses.now }
 {
-    statuses.iter().find(|r| r.component == component)
+    statuses.iter().find(|r| r.component() == component)
 }
 
 /// The status that was reported of a component.
-fn status_reported(component: u16, statuses: &[Reported]) -> Status
+fn status_reported(component: u16, statuses: &[CompactReport]) -> Status
     ensures { result ≡ reports.reported component statuses.now }
 {
     match find_reported(component, statuses) {
-        Some(reported) => reported.status,
+        Some(reported) => reported.status(),
         None => Status::Checking,
     }
 }
@@ -82,7 +83,11 @@ fn turn(component: u16, before: Status, after: Status) -> Change
     }
 }
 
-fn find_turn<'a>(agent: &AgentState, statuses: &[Reported], bases: &'a [Base]) -> Option<&'a Base>
+fn find_turn<'a>(
+    agent: &AgentState,
+    statuses: &[CompactReport],
+    bases: &'a [Base],
+) -> Option<&'a Base>
     ensures { option_copied result
         ≡ find (reports.is_new_status statuses.now agent.now.state) bases.now }
 {
@@ -90,7 +95,7 @@ fn find_turn<'a>(agent: &AgentState, statuses: &[Reported], bases: &'a [Base]) -
 }
 
 /// Removes what was reported of a component.
-fn remove_reported(component: u16, statuses: &mut Vec<Reported>)
+fn remove_reported(component: u16, statuses: &mut Vec<CompactReport>)
     ensures items { statuses.new.items
         ≡ filter (λ x. not (reports.is_of component x)) statuses.old.items }
     ensures capacity { vec_capacity statuses.new ≡ vec_capacity statuses.old }
@@ -99,7 +104,7 @@ fn remove_reported(component: u16, statuses: &mut Vec<Reported>)
 }
 
 impl AgentState {
-    fn is_new_status(&self, statuses: &[Reported], base: &Base) -> bool
+    fn is_new_status(&self, statuses: &[CompactReport], base: &Base) -> bool
         ensures { result ≡ reports.is_new_status statuses.now self.now.state base.now }
     {
         !is_status(
@@ -109,7 +114,7 @@ impl AgentState {
     }
 
     /// The first status that isn't reported yet.
-    pub(crate) fn status_change(&self, statuses: &[Reported]) -> Option<Change>
+    pub(crate) fn status_change(&self, statuses: &[CompactReport]) -> Option<Change>
         ensures { result ≡ reports.turn_of statuses.now self.now.state
             (find (reports.is_new_status statuses.now self.now.state) self.now.state.bases) }
     {
@@ -131,7 +136,7 @@ impl Changes {
         remove_reported(component, &mut self.statuses);
         keep(
             self.most_statuses,
-            Reported { component, status },
+            CompactReport::new(Reported { component, status }),
             &mut self.statuses,
         );
     }

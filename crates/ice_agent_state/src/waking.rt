@@ -244,7 +244,7 @@ impl AgentState {
     /// assert_eq!(rt; agent.next_wake(), None);
     /// agent.set_peer(0);
     /// assert_eq!(rt; agent.next_wake(), Some(0));
-    /// assert!(rt; agent.poll(0, 1).is_some());
+    /// assert!(rt; agent.poll(0, 1)?.is_some());
     /// // No response comes: the second request follows after 500 ms.
     /// assert_eq!(rt; agent.next_wake(), Some(500_000_000));
     /// ```

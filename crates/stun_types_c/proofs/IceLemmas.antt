@@ -56,4 +56,4 @@ polled now n id result core kept before after out written asked request late wak
     (λ it. PollsIn it now (number id.bytes) result (left before out asked late) (left after written request wake)))
     (sym before_is)
     (subst (λ (m : ℕ). PollsIn core now m result (left before out asked late) (left after written request wake)) id_is
-    (record { core_is = after_is ∙ does.core_is; writes = does.writes; wake = does.wake }))
+    (record { next = does.next; core_is = after_is ∙ does.core_is; writes = does.writes; wake = does.wake }))

@@ -4,7 +4,7 @@ use Rattle.stun_grammar.specs.declared.error.StunWriteError.{StunWriteError}
 use Rattle.stun_grammar.specs.Numbers.{number}
 use Rattle.stun_endpoints.specs.declared.endpoints.Endpoint.{Endpoint}
 use Rattle.stun_endpoints.specs.Conversions.{socket_of}
-use Rattle.ice_machine.specs.Events.{polls, sends}
+use Rattle.ice_machine.specs.Events.{sends}
 use Rattle.ice_agent_state.specs.declared.routing.Route.{Route}
 use Rattle.ice_agent_state.specs.Agents.{Held, output_at}
 use Rattle.ice_agent_state.specs.Outputs.{data_by}
@@ -90,10 +90,10 @@ pub record PollLeft : Type 0 where
   pub wake : ℕ
 
 -- what a poll writes, as `Agent` does
-pub record WritesInC (core : IceCore) (now id : ℕ) (result : CResult) (old new : List ℕ) (out : CIceRequest)
+pub record WritesInC (core next : IceCore) (now id : ℕ) (result : CResult) (old new : List ℕ) (out : CIceRequest)
     : Type 0 where
   pub written : Result (Option Sending) StunWriteError
-  pub polls_are : sending.Polls core.agent (output_at now id polls core.agent.held) old new written
+  pub polled : sending.IsPolled now id core.agent next.agent old new written
   pub in_c : IsWritten written result out
 
 -- the moment of the next poll, never if there is none
@@ -107,9 +107,10 @@ pub record ShowsWake (held : Held) (shown : ℕ) : Type 0 where
   pub shown_is : shown ≡ wake_shown next
 
 pub record PollsIn (core : IceCore) (now id : ℕ) (result : CResult) (old new : PollLeft) : Type 0 where
-  pub core_is : new.core ≡ Some (with_agent (passes now id polls core.agent) core)
-  pub writes : WritesInC core now id result old.slice new.slice new.request
-  pub wake : ShowsWake (passes now id polls core.agent).held new.wake
+  pub next : IceCore
+  pub core_is : new.core ≡ Some next
+  pub writes : WritesInC core next now id result old.slice new.slice new.request
+  pub wake : ShowsWake next.agent.held new.wake
 
 abbrev pub PollsAgent : (now : ℕ) → Id → CResult → PollLeft → PollLeft → Type 0
 PollsAgent now id result old new =

@@ -1,11 +1,8 @@
 //! What an ICE agent receives, and what it sends.
 
 ghost use Rattle.std.specs.Prelude.{◌≡◌, ℕ, List, Some, MatchOption};
-ghost use Rattle.ice_machine.specs.Events.{polls, sends};
-ghost use Rattle.ice_agent.specs.Agents.{passes};
 ghost use Rattle.stun_types_c.specs.IceCalls.{HoldsRequest, HoldsRoute, IsPath, IsReceived, IsWritten, PollsAgent, PollsIn, ReceivesInC, RoutesData, RoutesIn, ShowsWake, TakesDatagram, WritesInC, no_path, no_received, no_request, received_in_c};
 ghost use Rattle.stun_types_c.specs.IceHandles.{held_agent};
-ghost use Rattle.stun_types_c.specs.IceMaking.{with_agent};
 
 use crate::address::Address;
 use crate::allocation_settings::endpoint_in;
@@ -213,8 +210,7 @@ fn poll(
     out: &mut [u8],
     request: &mut CIceRequest,
 ) -> CResult
-    ensures state { core.new ≡ with_agent (passes now id polls core.old.agent) core.old }
-    ensures writes { WritesInC core.old now id result out.old out.new request.new }
+    ensures { WritesInC core.old core.new now id result out.old out.new request.new }
 {
     let written = core.agent.poll(alloc, now, id, out);
     written_in_c(written, request)

@@ -39,7 +39,6 @@ invariant_of-self c =
       bases = c.self.invariant.bases;
       remotes = c.self.invariant.remotes;
       pairs = omega (arith, same, enough);
-      requests = c.self.invariant.requests;
       few = c.self.invariant.few;
       tries = c.self.invariant.tries;
       distinct = subst AreDistinct written (heard_distinct room c.self.inside.role c.args.check.now c.args.base remote items c.self.invariant.distinct);

@@ -20,7 +20,6 @@ invariant_of-self c =
       bases = omega (arith, bases, base_room);
       remotes = c.self.invariant.remotes;
       pairs = omega (arith, pairs, pair_room);
-      requests = c.self.invariant.requests;
       few = c.self.invariant.few;
       tries = c.self.invariant.tries;
       distinct = base_distinct c.self.inside.settings.most_pairs c.args.base c.deref-2.result.now c.self.inside.pairs.items _ c.pair_base.ensures.items c.self.invariant.distinct;

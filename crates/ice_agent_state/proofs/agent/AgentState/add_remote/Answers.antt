@@ -20,7 +20,6 @@ invariant_of-self c =
       bases = c.self.invariant.bases;
       remotes = omega (arith, remotes, remote_room);
       pairs = omega (arith, pairs, pair_room);
-      requests = c.self.invariant.requests;
       few = c.self.invariant.few;
       tries = c.self.invariant.tries;
       distinct = remote_distinct c.self.inside.settings.most_pairs c.args.remote c.deref-2.result.now c.self.inside.pairs.items _ c.pair_remote.ensures.items c.self.invariant.distinct;

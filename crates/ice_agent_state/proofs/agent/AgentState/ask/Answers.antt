@@ -28,7 +28,21 @@ asked-asked-requires c =
     omega (arith, few, tries)
 
 pub invariant_of-self : goal.invariant_of-self
-invariant_of-self c =
+invariant_of-self c = record {
+  early = c.self.invariant.early;
+  bases = c.self.invariant.bases;
+  remotes = c.self.invariant.remotes;
+  pairs = c.self.invariant.pairs;
+  few = subst (λ (rs : List Request). length rs ≤ c.self.inside.settings.most_requests) (sym c.make_room.ensures.items) c.self.invariant.few;
+  tries = c.self.invariant.tries;
+  distinct = c.self.invariant.distinct;
+  tried = c.self.invariant.tried;
+  steady = c.self.invariant.steady;
+  awaited = subst (AllByRecursion (StaysAwaited c.self.inside.quiet_until)) (sym c.make_room.ensures.items) c.self.invariant.awaited;
+}
+
+pub invariant_of-self-2 : goal.invariant_of-self-2
+invariant_of-self-2 c =
     let most = max 1 c.self.inside.settings.most_tries in
     let held = spelled c.self.view_is in
     let settled_by : IsSettled held = subst IsSettled (sym c.self.view_is) c.requires.settled in
@@ -52,15 +66,14 @@ invariant_of-self c =
     let request_is : c.request_on-request.result ≡ request_on held.setup held.state c.args.id c.args.pair = subst (λ (z : Held). c.request_on-request.result ≡ request_on z.setup z.state c.args.id c.args.pair) (sym c.self.view_is) c.request_on-request.ensures in
     let sent_is : c.request_on-request.result.sent ≡ c.self.inside.clock = ap (λ (r : Request). r.sent) request_is in
     let by_sent : until ≤ c.request_on-request.result.sent + seconds 30 = omega (arith, least, sooner, sent_is) in
-    let same = c.keep.ensures.capacity in
-    let room = c.self.invariant.requests in
+    let kept : c.keep.new.xs.items ≡ take c.self.inside.settings.most_requests (c.request_on-request.result ∷ c.self.inside.requests.items)
+    = c.keep.ensures.items ∙ ap (λ (rs : List Request). take c.self.inside.settings.most_requests (c.request_on-request.result ∷ rs)) c.make_room.ensures.items in
     record {
       early = c.self.invariant.early;
       bases = c.self.invariant.bases;
       remotes = c.self.invariant.remotes;
       pairs = c.self.invariant.pairs;
-      requests = omega (arith, same, room);
-      few = subst (λ (rs : List Request). length rs ≤ c.self.inside.settings.most_requests) (sym c.keep.ensures.items) (take_few c.self.inside.settings.most_requests (c.request_on-request.result ∷ c.self.inside.requests.items));
+      few = subst (λ (rs : List Request). length rs ≤ c.self.inside.settings.most_requests) (sym kept) (take_few c.self.inside.settings.most_requests (c.request_on-request.result ∷ c.self.inside.requests.items));
       tries = c.self.invariant.tries;
       distinct = subst AreDistinct written facts.distinct;
       tried = subst (AllByRecursion (IsTried most)) written facts.tried;
@@ -68,7 +81,7 @@ invariant_of-self c =
           (each_replaced (IsSteady held.setup until) (is_at c.args.pair.base c.args.pair.remote) (asked held.setup held.state c.args.id c.args.pair)
           (steady_sooner held.setup (capped end) until by_end (asked held.setup held.state c.args.id c.args.pair) (steady_one held.setup (asked held.setup held.state c.args.id c.args.pair) end holds))
           items (all_steady_sooner held.setup c.self.inside.quiet_until until items (omega (arith, least)) c.self.invariant.steady));
-      awaited = subst (AllByRecursion (StaysAwaited until)) (sym c.keep.ensures.items) (each_taken (StaysAwaited until) c.self.inside.settings.most_requests (c.request_on-request.result ∷ c.self.inside.requests.items)
+      awaited = subst (AllByRecursion (StaysAwaited until)) (sym kept) (each_taken (StaysAwaited until) c.self.inside.settings.most_requests (c.request_on-request.result ∷ c.self.inside.requests.items)
           (awaited_by until c.request_on-request.result by_sent, all_awaited_sooner c.self.inside.quiet_until until c.self.inside.requests.items (omega (arith, least)) c.self.invariant.awaited));
     }
 
@@ -89,7 +102,8 @@ returns-clause-state c =
     let r : c.request_on-request.result ≡ request_on held.setup held.state c.args.id c.args.pair = subst (λ (z : Held). c.request_on-request.result ≡ request_on z.setup z.state c.args.id c.args.pair) (sym c.self.view_is) c.request_on-request.ensures in
     let state_of : List Pair → List Request → ℕ → Held = λ ps rs n. record held { state = record held.state { pairs = ps; requests = rs; next_request_at = n } } in
     let kept : c.keep.new.xs.items ≡ take c.self.inside.settings.most_requests (request_on held.setup held.state c.args.id c.args.pair ∷ c.self.inside.requests.items)
-    = c.keep.ensures.items ∙ ap (λ (x : Request). take c.self.inside.settings.most_requests (x ∷ c.self.inside.requests.items)) r in
+    = c.keep.ensures.items ∙ ap (λ (rs : List Request). take c.self.inside.settings.most_requests (c.request_on-request.result ∷ rs)) c.make_room.ensures.items
+    ∙ ap (λ (x : Request). take c.self.inside.settings.most_requests (x ∷ c.self.inside.requests.items)) r in
     subst (λ (z : Held). state_of (take c.self.inside.pairs.len (c.replace.new.pairs ++ drop (length c.replace.new.pairs) items)) c.keep.new.xs.items (c.self.inside.clock + c.pace_of.result)
     ≡ record z { state = (asks_on z.setup c.args.id z.state c.args.pair).state }) c.self.view_is
     (ap (λ (ps : List Pair). state_of ps c.keep.new.xs.items (c.self.inside.clock + c.pace_of.result)) (sym written ∙ facts.same)

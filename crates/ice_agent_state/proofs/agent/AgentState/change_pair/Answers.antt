@@ -29,7 +29,6 @@ invariant_of-self c =
       bases = c.self.invariant.bases;
       remotes = c.self.invariant.remotes;
       pairs = c.self.invariant.pairs;
-      requests = c.self.invariant.requests;
       few = c.self.invariant.few;
       tries = c.self.invariant.tries;
       distinct = subst AreDistinct written (changed_distinct c.args.by.now (is_at c.args.base c.args.to) items c.self.invariant.distinct);

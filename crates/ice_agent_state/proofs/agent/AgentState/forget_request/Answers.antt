@@ -12,18 +12,15 @@ pub invariant_of-self : goal.invariant_of-self
 invariant_of-self c =
     let fewer = filter_few (λ (r : Request). not (is_request c.args.id r)) c.self.inside.requests.items in
     let few = c.self.invariant.few in
-    let room = c.self.invariant.requests in
-    let same = c.end_waiting.ensures.capacity in
     record {
       early = c.self.invariant.early;
       bases = c.self.invariant.bases;
       remotes = c.self.invariant.remotes;
       pairs = c.self.invariant.pairs;
-      requests = omega (arith, same, room);
-      few = subst (λ (rs : List Request). length rs ≤ c.self.inside.settings.most_requests) (sym c.end_waiting.ensures.items) (omega (arith, fewer, few));
+      few = subst (λ (rs : List Request). length rs ≤ c.self.inside.settings.most_requests) (sym c.end_waiting.ensures) (omega (arith, fewer, few));
       tries = c.self.invariant.tries;
       distinct = c.self.invariant.distinct;
       tried = c.self.invariant.tried;
       steady = c.self.invariant.steady;
-      awaited = subst (AllByRecursion (StaysAwaited c.self.inside.quiet_until)) (sym c.end_waiting.ensures.items) (each_filtered (StaysAwaited c.self.inside.quiet_until) (λ (r : Request). not (is_request c.args.id r)) c.self.inside.requests.items c.self.invariant.awaited);
+      awaited = subst (AllByRecursion (StaysAwaited c.self.inside.quiet_until)) (sym c.end_waiting.ensures) (each_filtered (StaysAwaited c.self.inside.quiet_until) (λ (r : Request). not (is_request c.args.id r)) c.self.inside.requests.items c.self.invariant.awaited);
     }

@@ -23,7 +23,6 @@ invariant_of-self c =
       bases = c.self.invariant.bases;
       remotes = c.self.invariant.remotes;
       pairs = c.self.invariant.pairs;
-      requests = c.self.invariant.requests;
       few = c.self.invariant.few;
       tries = c.self.invariant.tries;
       distinct = c.self.invariant.distinct;
