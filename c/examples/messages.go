@@ -1,7 +1,8 @@
 // Reads the address in a response, and writes and validates a signed request, as messages.c does.
+//
+//	go build messages.go stun_types.go && ./messages
 package main
 
-// #cgo pkg-config: stun_types
 // #include <stun_types.h>
 import "C"
 
@@ -16,17 +17,6 @@ import (
 
 const response = "0101000c2112a442b7e7a701bc34d686fa87dfae002000080001a147e112a643"
 
-func check(answer C.stun_types_answer) {
-	if answer.code != C.STUN_TYPES_OK {
-		log.Fatal(C.GoString(C.stun_types_status_text(C.uint32_t(answer.code))))
-	}
-}
-
-// data is the address of the first of some bytes, of which there is at least one.
-func data(bytes []byte) *C.uint8_t {
-	return (*C.uint8_t)(unsafe.Pointer(&bytes[0]))
-}
-
 func addressIn(message []byte) netip.AddrPort {
 	var found C.stun_types_attribute
 	var address C.stun_types_address
@@ -36,12 +26,7 @@ func addressIn(message []byte) netip.AddrPort {
 		log.Fatal("the response reports no address")
 	}
 	check(C.stun_types_read_xor_address(data(message), length, &found, &address))
-	octets := C.GoBytes(unsafe.Pointer(&address.octets), 16)
-	if address.family == 4 {
-		octets = octets[:4]
-	}
-	ip, _ := netip.AddrFromSlice(octets)
-	return netip.AddrPortFrom(ip, uint16(address.port))
+	return addrPort(address)
 }
 
 func signedRequest(user []byte, key *C.stun_types_key) []byte {
@@ -61,10 +46,7 @@ func signedRequest(user []byte, key *C.stun_types_key) []byte {
 // replyTo returns what a server without credentials replies to a datagram from 192.0.2.1:32853; no bytes
 // if nothing.
 func replyTo(datagram []byte) []byte {
-	source := C.stun_types_address{port: 32853, family: 4}
-	for at, octet := range []C.uint8_t{192, 0, 2, 1} {
-		source.octets[at] = octet
-	}
+	source := addressOf(netip.MustParseAddrPort("192.0.2.1:32853"))
 	bytes := make([]byte, len(datagram)+48) // a reply is at most so much longer
 	var length C.size_t
 	check(C.stun_types_binding_reply(data(datagram), C.size_t(len(datagram)), &source, data(bytes),

@@ -2,64 +2,14 @@
 //
 //     rustc --edition 2021 messages.rs -L PREFIX/lib && LD_LIBRARY_PATH=PREFIX/lib ./messages
 
-/// The structs, numbers and calls of stun_types.h, named as there.
 #[rustfmt::skip]
-mod stun {
-    #[repr(C)] #[derive(Default)]
-    pub struct Answer { pub code: u32, pub r#type: u32, pub expected: u64, pub actual: u64 }
-    #[repr(C)]
-    pub struct Id { pub bytes: [u8; 12] }
-    #[repr(C)] #[derive(Default)]
-    pub struct Attribute { pub value_at: usize, pub r#type: u16, pub length: u16 }
-    #[repr(C)] #[derive(Default)]
-    pub struct Address { pub octets: [u8; 16], pub port: u16, pub family: u16 }
-    #[repr(C)]
-    pub struct Key { pub at: *mut u8, pub held: u64 }
-    #[repr(C)] #[derive(Default)]
-    pub struct Policy { pub algorithm: u32, pub min_hmac_length: u32, pub fingerprint: u32, pub reserved: u32 }
-    #[repr(C)] #[derive(Default)]
-    pub struct Validated { pub algorithm: u32, pub hmac_length: u32, pub reserved: u64 }
+mod stun_types;
 
-    pub const STUN_TYPES_CLASS_REQUEST: u32 = 0;
-    pub const STUN_TYPES_METHOD_BINDING: u32 = 0x001;
-    pub const STUN_TYPES_ATTRIBUTE_USERNAME: u16 = 0x0006;
-    pub const STUN_TYPES_ATTRIBUTE_XOR_MAPPED_ADDRESS: u16 = 0x0020;
-    pub const STUN_TYPES_INTEGRITY_SHA256: u32 = 0x001C;
-
-    #[link(name = "stun_types")]
-    extern "C" {
-        pub fn stun_types_parse(bytes: *const u8, length: usize) -> Answer;
-        pub fn stun_types_find(bytes: *const u8, length: usize, r#type: u16, found: *mut Attribute) -> bool;
-        pub fn stun_types_read_xor_address(bytes: *const u8, length: usize, found: *const Attribute, address: *mut Address) -> Answer;
-        pub fn stun_types_key_short_term(key: *mut Key, password: *const u8, length: usize) -> Answer;
-        pub fn stun_types_keys_free(keys: *mut Key, count: usize);
-        pub fn stun_types_message_type(class: u32, method: u32) -> u16;
-        pub fn stun_types_begin(room: *mut u8, size: usize, r#type: u16, id: *const Id, written: *mut usize) -> Answer;
-        pub fn stun_types_add(room: *mut u8, size: usize, written: *mut usize, r#type: u16, value: *const u8, length: usize) -> Answer;
-        pub fn stun_types_add_integrity(room: *mut u8, size: usize, written: *mut usize, key: *const Key, algorithm: u32) -> Answer;
-        pub fn stun_types_add_fingerprint(room: *mut u8, size: usize, written: *mut usize) -> Answer;
-        pub fn stun_types_binding_reply(bytes: *const u8, length: usize, source: *const Address, room: *mut u8, size: usize, reply_length: *mut usize) -> Answer;
-        pub fn stun_types_validate_by_policy(bytes: *const u8, length: usize, policy: *const Policy, key: *const Key, validated: *mut Validated) -> Answer;
-    }
-}
-use std::net::{IpAddr, SocketAddr};
-use stun::*;
+use std::net::SocketAddr;
+use stun_types::*;
 
 const RESPONSE: &[u8] = b"\x01\x01\x00\x0c\x21\x12\xa4\x42\xb7\xe7\xa7\x01\xbc\x34\xd6\x86\
     \xfa\x87\xdf\xae\x00\x20\x00\x08\x00\x01\xa1\x47\xe1\x12\xa6\x43";
-
-fn check(answer: Answer) -> Result<(), String> {
-    match answer.code {
-        0 => Ok(()),
-        code => Err(format!("the library returned the code {code}")),
-    }
-}
-
-impl Drop for Key {
-    fn drop(&mut self) {
-        unsafe { stun_types_keys_free(self, 1) }
-    }
-}
 
 fn address_in(message: &[u8]) -> Result<String, String> {
     let (bytes, size) = (message.as_ptr(), message.len());
@@ -70,12 +20,7 @@ fn address_in(message: &[u8]) -> Result<String, String> {
         return Err("the response reports no address".into());
     }
     check(unsafe { stun_types_read_xor_address(bytes, size, &found, &mut address) })?;
-    let [a, b, c, d, ..] = address.octets;
-    let ip: IpAddr = match address.family {
-        6 => address.octets.into(),
-        _ => [a, b, c, d].into(),
-    };
-    Ok(SocketAddr::new(ip, address.port).to_string())
+    Ok(SocketAddr::from(address).to_string())
 }
 
 fn signed_request(user: &str, key: &Key) -> Result<Vec<u8>, String> {
@@ -95,8 +40,7 @@ fn signed_request(user: &str, key: &Key) -> Result<Vec<u8>, String> {
 
 /// What a server without credentials replies to a datagram from 192.0.2.1:32853; no bytes if nothing.
 fn reply_to(datagram: &[u8]) -> Result<Vec<u8>, String> {
-    let mut source = Address { port: 32853, family: 4, ..Address::default() };
-    source.octets[..4].copy_from_slice(&[192, 0, 2, 1]);
+    let source = Address::from(SocketAddr::from(([192, 0, 2, 1], 32853)));
     let mut room = vec![0; datagram.len() + 48]; // a reply is at most so much longer
     let (bytes, size, mut length) = (datagram.as_ptr(), datagram.len(), 0);
     let (at, most) = (room.as_mut_ptr(), room.len());

@@ -6,12 +6,7 @@
  * ADDRESS, which is one of this machine's, is that of the relays too; with port 0 the system chooses one.
  * PEER is an address that clients may reach although it is denied by default: 127.0.0.1 to try it out. */
 #define _DEFAULT_SOURCE
-#include <poll.h>
-#include <sys/random.h>
-#include <time.h>
-#include <unistd.h>
-
-#include "addresses.h"
+#include "datagrams.h"
 
 /* The sockets: the one that clients send to, those of the relays, and a spare one for the next relay. */
 enum { RELAYS = 100, HEAD = STUN_TYPES_TURN_HEAD };
@@ -24,26 +19,6 @@ static stun_types_turn server = STUN_TYPES_TURN_INIT;
 static const char *user;
 static stun_types_key md5 = STUN_TYPES_KEY_INIT, sha256 = STUN_TYPES_KEY_INIT, none = STUN_TYPES_KEY_INIT;
 
-static uint64_t nanoseconds(void) {
-    struct timespec now;
-    clock_gettime(CLOCK_MONOTONIC, &now);
-    return (uint64_t)now.tv_sec * 1000000000 + (uint64_t)now.tv_nsec;
-}
-
-/* Opens a socket at an address, and writes where it is; without one the family becomes 0. */
-static struct pollfd open_socket(stun_types_address *address) {
-    socket_address at;
-    socket_address_of(address, &at);
-    struct pollfd opened = {socket(at.bytes.ss_family, SOCK_DGRAM, 0), POLLIN, 0};
-    if (bind(opened.fd, (struct sockaddr *)&at.bytes, at.length) != 0 ||
-        getsockname(opened.fd, (struct sockaddr *)&at.bytes, &at.length) != 0 ||
-        !address_of(&at.bytes, address)) {
-        close(opened.fd);
-        address->family = 0;
-    }
-    return opened;
-}
-
 static nfds_t relay_of(uint64_t number) {
     nfds_t at = 1;
     while (at < count && numbers[at] != number) at++;
@@ -51,17 +26,11 @@ static nfds_t relay_of(uint64_t number) {
 }
 
 static void send_to(nfds_t by, const stun_types_address *to, const uint8_t *bytes, size_t length) {
-    socket_address at;
-    socket_address_of(to, &at);
-    (void)sendto(sockets[by].fd, bytes, length, 0, (struct sockaddr *)&at.bytes, at.length);
+    send_datagram(sockets[by].fd, to, bytes, length);
 }
 
 static bool receive(nfds_t by, stun_types_address *from, size_t *length) {
-    socket_address at = {.length = sizeof at.bytes};
-    ssize_t got = recvfrom(sockets[by].fd, datagram, 65536, MSG_DONTWAIT, (struct sockaddr *)&at.bytes,
-                           &at.length);
-    *length = (size_t)got;
-    return got >= 0 && address_of(&at.bytes, from);
+    return receive_datagram(sockets[by].fd, from, datagram, 65536, length);
 }
 
 /* Closes the sockets of the relays that the last call ended. */
@@ -109,7 +78,7 @@ static void take_from_peer(nfds_t by) {
     stun_types_address peer;
     stun_types_id id;
     size_t length;
-    if (!receive(by, &peer, &length) || getrandom(&id, sizeof id, 0) != sizeof id) return;
+    if (!receive(by, &peer, &length) || !draw(&id, sizeof id)) return;
     if (stun_types_turn_peer(&server, nanoseconds(), &peer, numbers[by], length, &id, room, HEAD, &to).code)
         return;
     memset(datagram + length, 0, to.padding);
@@ -137,8 +106,7 @@ int main(int words, char **word) {
     settings.limits.ipv4 = own.family == 4;
     settings.limits.ipv6 = own.family == 6;
     sockets[0] = open_socket(&own);
-    if (own.family == 0 || getrandom(random, sizeof random, 0) != sizeof random ||
-        getrandom(settings.seed, sizeof settings.seed, 0) != sizeof settings.seed ||
+    if (own.family == 0 || !draw(random, sizeof random) || !draw(settings.seed, sizeof settings.seed) ||
         stun_types_key_from_bytes(&secret, random, sizeof random, STUN_TYPES_INTEGRITY_ANY).code ||
         stun_types_key_long_term(&md5, word[4], strlen(word[4]), word[3], strlen(word[3]), word[5],
                                  strlen(word[5]), STUN_TYPES_PASSWORD_MD5).code ||
