@@ -79,7 +79,7 @@ def calls_of_header():
 
 
 def python_module():
-    spec = importlib.util.spec_from_file_location("messages", EXAMPLES / "messages.py")
+    spec = importlib.util.spec_from_file_location("stun_types", EXAMPLES / "stun_types.py")
     module = importlib.util.module_from_spec(spec)
     spec.loader.exec_module(module)
     return module
@@ -118,11 +118,11 @@ fn main() {
 
 
 def rust_source():
-    return (EXAMPLES / "messages.rs").read_text()
+    return (EXAMPLES / "stun_types.rs").read_text()
 
 
 def facts_of_rust(rustc, folder):
-    """The structs and numbers of the example, as a program that includes them prints them."""
+    """The structs and numbers of the module, as a program that includes them prints them."""
     lines, source = [], rust_source()
     for name, body in re.findall(r"\bstruct (\w+) \{(.*?)\}", source):
         lines.append(f'println!("{named(name)} - 0 {{}}", std::mem::size_of::<{name}>());')
@@ -135,10 +135,9 @@ def facts_of_rust(rustc, folder):
     for name in re.findall(r"\bconst (STUN_TYPES_\w+):", source):
         lines.append(f'println!("{name} - {{}} 0", {name} as u64);')
     path, made = folder / "rust_prints.rs", folder / "rust_prints"
-    renamed = source.replace("fn main()", "fn example()")
-    renamed = renamed.replace('#[link(name = "stun_types")]', "")
-    path.write_text("#![allow(dead_code)]\n" + renamed + RUST_MAIN + "\n".join(lines) + "\n}\n")
-    # (the calls of the example are never reached, and nothing has to define them)
+    unlinked = source.replace('#[link(name = "stun_types")]', "")
+    path.write_text(unlinked + RUST_MAIN + "\n".join(lines) + "\n}\n")
+    # (the calls of the module are never reached, and nothing has to define them)
     unresolved = "link-arg=-Wl,--unresolved-symbols=ignore-all"
     status, said = run([*rustc, "--edition", "2021", "-C", unresolved, path, "-o", made])
     if status == 0:

@@ -65,6 +65,12 @@ def installed(lib="lib"):
     return sorted([*names, "share/man/man3/stun_types.3", *DOCUMENTS])
 
 
+def shown_examples():
+    """The examples that a release has."""
+    kinds = ("messages.*", "turn_client.*", "stun_types.*", "ice_*", "own_hmacs.h", "hmac_*.c", "addresses.h", "datagrams.h")
+    return sorted(it for kind in kinds for it in (HERE / "examples").glob(kind))
+
+
 def tree(folder):
     """The files and links below a folder, each with its bytes or where it leads."""
     found = {}

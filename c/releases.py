@@ -12,7 +12,7 @@ import sys
 
 from checks import C99, HERE, STRICT, TOP, skipped, stop
 from installation import (PROGRAMS, checked, compare, expected, installed, language, names_of, pc_flags, said_by,
-                          tree, version)
+                          shown_examples, tree, version)
 
 
 def without_kit():
@@ -92,8 +92,7 @@ def release_twice(name, given, folder):
 def check_content(wrong, root, kit):
     """The files of an unpacked release, their checksums, and what its text names."""
     documents = root / "share/doc/stun_types"
-    shown = (it for kind in ("messages.*", "own_hmacs.h", "hmac_*.c", "ice_*", "addresses.h") for it in (HERE / "examples").glob(kind))
-    examples = [f"examples/{it.name}" for it in sorted(shown)]
+    examples = [f"examples/{it.name}" for it in shown_examples()]
     guides = [f"guide/{it}.md" for it in ("C", "HMACS", "PROGRAMS", "STUN-SERVER", "TROUBLESHOOTING")]
     more = ["RELEASE.txt", "SHA256SUMS", "uninstall", "stun-server.conf", "stun-server.service",
             "stunnel.conf", "haproxy.cfg"]
@@ -139,7 +138,7 @@ def with_six(folder, path):
     octets = [found[1] + SIX[at : at + 2] for at in range(0, len(SIX), 2)]
     joined = (", " if found[1] == "0x" else "").join(octets)
     changed = folder / "of six" / path.name
-    changed.parent.mkdir(exist_ok=True)
+    shutil.copytree(path.parent, changed.parent, dirs_exist_ok=True)
     changed.write_text(text[: found.start()] + joined + text[found.end() :])
     return changed
 
@@ -206,7 +205,7 @@ def use_release(compiler, root, folder):
     """Compiles and runs the examples of an unpacked release, as if there were no kit."""
     path = without_kit()
     source = root / "share/doc/stun_types/examples"
-    environment = {**os.environ, "PATH": path, "LD_LIBRARY_PATH": str(root / "lib")}
+    environment = {**os.environ, "PATH": path, "LD_LIBRARY_PATH": str(root / "lib"), "PYTHONDONTWRITEBYTECODE": "1"}
     environment["PKG_CONFIG_PATH"] = str(root / "lib/pkgconfig")
     environment["GOCACHE"] = str(folder / "go")  # a cached package is linked with the folder that pkg-config named then
     flags = pc_flags(root)
@@ -220,7 +219,7 @@ def use_release(compiler, root, folder):
         ("C, shared", cc, c99, [source / "messages.c", *flags]),
         ("C, static", cc, c99, [source / "messages.c", *archive]),
         ("C++", cxx, [cxx, "-std=c++11", *STRICT], [source / "messages.cc", *flags]),
-        ("Go", go, [go, "build"], [source / "messages.go"]),
+        ("Go", go, [go, "build"], [source / "messages.go", source / "stun_types.go"]),
         ("Rust", rustc, [rustc, "--edition", "2021"], [source / "messages.rs", "-L", root / "lib"]),
     ]
     for name, tool, builds, given in ways:
@@ -234,8 +233,9 @@ def use_release(compiler, root, folder):
             if said_by([made], env=needs, cwd=folder) != expected():
                 wrong.append("it prints something else")
         with checked(f"a release from {name}, an address of IPv6") as wrong:
-            of_six = with_six(folder, next(it for it in given if pathlib.Path(it).parent == source))
-            said_by([*builds, "-o", made, of_six, *given[1:]], cwd=folder, env=environment)
+            of_six = with_six(folder, given[0])
+            more = [of_six.parent / it.name if it in [*source.iterdir()] else it for it in given[1:]]
+            said_by([*builds, "-o", made, of_six, *more], cwd=folder, env=environment)
             if said_by([made], env=needs, cwd=folder).splitlines()[0] != SIX_PRINTED:
                 wrong.append("it prints something else")
     with checked("a release from Python") as wrong:

@@ -1,8 +1,9 @@
-/* Sockets for datagrams, the clock and random bytes, for the examples. */
+/* Sockets for datagrams, the clock, random bytes and errors, for the examples. */
 #ifndef DATAGRAMS_H
 #define DATAGRAMS_H
 
 #include <poll.h>
+#include <stdlib.h>
 #include <sys/random.h>
 #include <time.h>
 #include <unistd.h>
@@ -26,6 +27,20 @@ static inline int milliseconds_until(uint64_t moment) {
 /* Draws bytes that nobody can guess; false if there are none. */
 static inline bool draw(void *bytes, size_t length) {
     return getrandom(bytes, length, 0) == (ssize_t)length;
+}
+
+/* Ends the program if something doesn't hold, for the reason that errno has. */
+static inline void need(bool holds, const char *what) {
+    if (holds) return;
+    perror(what);
+    exit(2);
+}
+
+/* The same with an answer of the library. */
+static inline void need_ok(stun_types_answer answer) {
+    if (answer.code == STUN_TYPES_OK) return;
+    fprintf(stderr, "%s\n", stun_types_status_text(answer.code));
+    exit(2);
 }
 
 /* Opens a socket at an address, and writes where it is; without one the family becomes 0. */

@@ -8,8 +8,6 @@
  * After SECONDS, by default 7, the program reports how long each agent may still send, and ends. With PASSWORD
  * each agent is given this one instead of the other's, and no check succeeds: status 1. */
 #define _DEFAULT_SOURCE
-#include <stdlib.h>
-
 #include "datagrams.h"
 
 enum { BASE = 0, COMPONENT = 1, ROOM = 1500, LINE_ROOM = 200, SECRET_ROOM = 257, TEXT_ROOM = 32 };
@@ -28,18 +26,6 @@ typedef struct {
     uint64_t wake;
     bool has_failed;
 } agent;
-
-static void check(stun_types_answer answer) {
-    if (answer.code == STUN_TYPES_OK) return;
-    fprintf(stderr, "%s\n", stun_types_status_text(answer.code));
-    exit(2);
-}
-
-static void need(bool holds, const char *what) {
-    if (holds) return;
-    perror(what);
-    exit(2);
-}
 
 static void draw_all(void *bytes, size_t length) { need(draw(bytes, length), "random bytes"); }
 
@@ -67,9 +53,9 @@ static void make_agent(agent *made, const char *name, stun_types_ice_role role) 
     stun_types_ice_base base = {.number = BASE, .foundation = 1, .priority = PRIORITY(HOST),
                                 .reflexive_priority = PRIORITY(PEER_REFLEXIVE), .component = COMPONENT,
                                 .family = made->own.family};
-    check(stun_types_ice_new(&made->agent, &settings));
-    check(stun_types_ice_add_base(&made->agent, nanoseconds(), &base));
-    check(stun_types_ice_add_address(&made->agent, &made->own));
+    need_ok(stun_types_ice_new(&made->agent, &settings));
+    need_ok(stun_types_ice_add_base(&made->agent, nanoseconds(), &base));
+    need_ok(stun_types_ice_add_address(&made->agent, &made->own));
 }
 
 /* ---- Descriptions */
@@ -81,19 +67,19 @@ static void describe(const agent *of, FILE *to) {
                                           .transport = STUN_TYPES_UDP, .kind = STUN_TYPES_ICE_HOST};
     char line[LINE_ROOM];
     size_t length;
-    check(stun_types_ice_candidate_write(&candidate, line, sizeof line, &length));
+    need_ok(stun_types_ice_candidate_write(&candidate, line, sizeof line, &length));
     fprintf(to, "a=ice-ufrag:%s\na=ice-pwd:%s\na=%.*s\na=end-of-candidates\n", of->ufrag, of->password,
             (int)length, line);
 }
 
 static void take_candidate(agent *of, const char *line) {
     stun_types_ice_candidate read;
-    check(stun_types_ice_candidate_read(line, strlen(line), &read));
+    need_ok(stun_types_ice_candidate_read(line, strlen(line), &read));
     if (read.transport != STUN_TYPES_UDP || read.address.family != of->own.family) return;
     /* (number the foundations of several candidates: equal ones have the same number) */
     stun_types_ice_remote remote = {.address = read.address, .foundation = 1, .priority = read.priority,
                                     .component = read.component};
-    check(stun_types_ice_add_remote(&of->agent, nanoseconds(), &remote));
+    need_ok(stun_types_ice_add_remote(&of->agent, nanoseconds(), &remote));
 }
 
 /* Takes the other agent's lines, with another password if there is one. */
@@ -105,8 +91,8 @@ static void take(agent *of, FILE *from, const char *other_password) {
         else if (sscanf(line, "a=ice-ufrag:%256s", ufrag) == 0) (void)sscanf(line, "a=ice-pwd:%256s", password);
     }
     const char *used = other_password != NULL ? other_password : password;
-    check(stun_types_ice_set_peer(&of->agent, nanoseconds(), ufrag, strlen(ufrag), used, strlen(used)));
-    check(stun_types_ice_end_candidates(&of->agent, nanoseconds()));
+    need_ok(stun_types_ice_set_peer(&of->agent, nanoseconds(), ufrag, strlen(ufrag), used, strlen(used)));
+    need_ok(stun_types_ice_end_candidates(&of->agent, nanoseconds()));
 }
 
 static void signal_to(agent *to, const agent *from, const char *other_password) {
@@ -135,7 +121,7 @@ static void receive(agent *of) {
     size_t length;
     while (receive_datagram(of->socket.fd, &from, datagram, sizeof datagram, &length)) {
         draw_all(&random, sizeof random);
-        check(stun_types_ice_datagram(&of->agent, nanoseconds(), BASE, &from, datagram, length, random, out,
+        need_ok(stun_types_ice_datagram(&of->agent, nanoseconds(), BASE, &from, datagram, length, random, out,
                                       sizeof out, &received));
         if (received.kind == STUN_TYPES_ICE_RESPONSE) send_datagram(of->socket.fd, &from, out, received.length);
         if (received.kind != STUN_TYPES_ICE_DATA) continue;
@@ -168,7 +154,7 @@ static void turn(agent *of) {
     stun_types_id id;
     do {
         draw_all(&id, sizeof id);
-        check(stun_types_ice_poll(&of->agent, nanoseconds(), &id, out, sizeof out, &request, &of->wake));
+        need_ok(stun_types_ice_poll(&of->agent, nanoseconds(), &id, out, sizeof out, &request, &of->wake));
         if (request.length > 0) send_datagram(of->socket.fd, &request.to, out, request.length);
     } while (request.length > 0);
     while (stun_types_ice_changes(&of->agent, &change))

@@ -6,11 +6,8 @@
 #include <algorithm>
 #include <iostream>
 #include <sstream>
-#include <stdexcept>
-#include <string>
-#include <vector>
 
-#include "datagrams.h"
+#include "stun_types.hpp"
 
 static const uint32_t BASE = 0;
 static const uint16_t COMPONENT = 1;
@@ -20,17 +17,6 @@ static const size_t ROOM = 1500;
 static uint32_t priority(uint32_t preference) { return (preference << 24) + (65535 << 8) + 256 - COMPONENT; }
 static const uint32_t HOST = 126, PEER_REFLEXIVE = 110;
 
-static void check(stun_types_answer answer) {
-    if (answer.code != STUN_TYPES_OK) throw std::runtime_error(stun_types_status_text(answer.code));
-}
-
-// A value of random bits.
-template <typename T> static T drawn() {
-    T value;
-    if (!draw(&value, sizeof value)) throw std::runtime_error("there are no random bytes");
-    return value;
-}
-
 // So many random characters of the alphabet of fragments and passwords (RFC 8839, section 5.4).
 static std::string random_text(size_t length) {
     static const char letters[] = "ABCDEFGHIJKLMNOPQRSTUVWXYZabcdefghijklmnopqrstuvwxyz0123456789+/";
@@ -39,18 +25,10 @@ static std::string random_text(size_t length) {
     return text;
 }
 
-static std::ostream &operator<<(std::ostream &to, const stun_types_address &address) {
-    char ip[INET6_ADDRSTRLEN] = "?";
-    const bool is_six = address.family == 6;
-    inet_ntop(is_six ? AF_INET6 : AF_INET, address.octets, ip, sizeof ip);
-    return is_six ? to << '[' << ip << "]:" << address.port : to << ip << ':' << address.port;
-}
-
 // An agent with one socket: its only base, and its only candidate.
 class Agent {
 public:
     Agent(const std::string &its_name, stun_types_ice_role role) : name(its_name) {
-        if (own.family == 0) throw std::runtime_error("there is no socket");
         stun_types_ice_settings settings{};
         settings.ufrag = ufrag.data();
         settings.ufrag_length = ufrag.size();
@@ -65,21 +43,18 @@ public:
         base.priority = priority(HOST);
         base.reflexive_priority = priority(PEER_REFLEXIVE);
         base.component = COMPONENT;
-        base.family = own.family;
+        base.family = socket.own.family;
         check(stun_types_ice_new(&agent, &settings));
         check(stun_types_ice_add_base(&agent, nanoseconds(), &base));
-        check(stun_types_ice_add_address(&agent, &own));
+        check(stun_types_ice_add_address(&agent, &socket.own));
     }
-    ~Agent() {
-        stun_types_ice_free(&agent);
-        close(socket.fd);
-    }
+    ~Agent() { stun_types_ice_free(&agent); }
     Agent(const Agent &) = delete;
     Agent &operator=(const Agent &) = delete;
 
     // The lines that the other agent needs.
     std::string description() const {
-        stun_types_ice_candidate candidate{{'1'}, 1, COMPONENT, priority(HOST), own, {}, STUN_TYPES_UDP,
+        stun_types_ice_candidate candidate{{'1'}, 1, COMPONENT, priority(HOST), socket.own, {}, STUN_TYPES_UDP,
                                            STUN_TYPES_ICE_HOST};
         std::string line(200, '\0');
         size_t length;
@@ -107,16 +82,15 @@ public:
 
     // Takes the datagrams that have come: checks, responses and data.
     void receive() {
-        std::vector<uint8_t> datagram(ROOM), out(ROOM);
+        std::vector<uint8_t> datagram, out(ROOM);
         stun_types_address from;
         stun_types_ice_received taken;
-        size_t length;
-        while (receive_datagram(socket.fd, &from, datagram.data(), ROOM, &length)) {
-            check(stun_types_ice_datagram(&agent, nanoseconds(), BASE, &from, datagram.data(), length,
+        while (socket.receive(datagram, ROOM, from)) {
+            check(stun_types_ice_datagram(&agent, nanoseconds(), BASE, &from, datagram.data(), datagram.size(),
                                           drawn<uint64_t>(), out.data(), ROOM, &taken));
-            if (taken.kind == STUN_TYPES_ICE_RESPONSE) send_datagram(socket.fd, &from, out.data(), taken.length);
+            if (taken.kind == STUN_TYPES_ICE_RESPONSE) socket.send(from, out.data(), taken.length);
             if (taken.kind != STUN_TYPES_ICE_DATA) continue;
-            received.assign(datagram.begin(), datagram.begin() + static_cast<std::ptrdiff_t>(length));
+            received.assign(datagram.begin(), datagram.end());
             std::cout << name << " received " << received << '\n';
         }
     }
@@ -130,7 +104,7 @@ public:
         do {
             const auto id = drawn<stun_types_id>();
             check(stun_types_ice_poll(&agent, nanoseconds(), &id, out.data(), ROOM, &request, &wake));
-            if (request.length > 0) send_datagram(socket.fd, &request.to, out.data(), request.length);
+            if (request.length > 0) socket.send(request.to, out.data(), request.length);
         } while (request.length > 0);
         while (stun_types_ice_changes(&agent, &change))
             if (change.kind == STUN_TYPES_ICE_PROGRESS) take_progress(change);
@@ -150,14 +124,13 @@ public:
 
     bool has_failed = false;
     std::string received;
-    stun_types_address own{{127, 0, 0, 1}, 0, 4};
-    pollfd socket = open_socket(&own);
+    const Socket socket{{{127, 0, 0, 1}, 0, 4}};
 
 private:
     void take_candidate(const std::string &line) {
         stun_types_ice_candidate read;
         check(stun_types_ice_candidate_read(line.data(), line.size(), &read));
-        if (read.transport != STUN_TYPES_UDP || read.address.family != own.family) return;
+        if (read.transport != STUN_TYPES_UDP || read.address.family != socket.own.family) return;
         // (Number the foundations of several candidates: equal ones have the same number.)
         const stun_types_ice_remote remote{read.address, 1, read.priority, read.component, 0};
         check(stun_types_ice_add_remote(&agent, nanoseconds(), &remote));
@@ -168,7 +141,7 @@ private:
             has_failed = true;
             std::cout << name << " failed\n";
         } else if (change.progress == STUN_TYPES_ICE_CONNECTED) {
-            std::cout << name << " connected " << own << " to " << change.address << '\n';
+            std::cout << name << " connected " << socket.own << " to " << change.address << '\n';
             send("data of " + name);
         }
     }
@@ -176,7 +149,7 @@ private:
     void send(const std::string &text) {
         stun_types_ice_path path;
         if (stun_types_ice_route(&agent, nanoseconds(), COMPONENT, &path))
-            send_datagram(socket.fd, &path.to, reinterpret_cast<const uint8_t *>(text.data()), text.size());
+            socket.send(path.to, text);
     }
 
     const std::string name, ufrag = random_text(8), password = random_text(24);
@@ -192,7 +165,7 @@ int main(int count, char **arguments) try {
     for (const uint64_t end = nanoseconds() + seconds * 1000000000;;) {
         const uint64_t wake = std::min({left.turn(), right.turn(), end});
         if (nanoseconds() >= end || (left.has_failed && right.has_failed)) break;
-        pollfd sockets[] = {left.socket, right.socket};
+        pollfd sockets[] = {left.socket.opened, right.socket.opened};
         if (poll(sockets, 2, milliseconds_until(wake)) < 0) throw std::runtime_error("poll failed");
         left.receive();
         right.receive();

@@ -15,7 +15,7 @@ import time
 from ctypes import c_size_t, c_uint64, create_string_buffer
 
 import stun_types as stun
-from stun_types import address_of, new_id, now, socket_address
+from stun_types import address_of, new_id, now, socket_address, text_of
 
 BASE, COMPONENT, ROOM = 0, 1, 1500
 # Of a host candidate, and of a peer-reflexive one of the same base (RFC 8445, section 5.1.2.1).
@@ -98,8 +98,7 @@ class Agent:
             self.has_failed = True
             print(f"{self.name} failed")
         elif change.progress == stun.STUN_TYPES_ICE_CONNECTED:
-            own, peer = socket_address(self.own), socket_address(change.address)
-            print("{} connected {}:{} to {}:{}".format(self.name, *own, *peer))
+            print(f"{self.name} connected {text_of(self.own)} to {text_of(change.address)}")
             self.send(f"data of {self.name}")
 
     def send(self, text):

@@ -7,16 +7,11 @@
 #[rustfmt::skip]
 mod stun_types;
 
-use std::error::Error;
-use std::fs::File;
-use std::io::{self, Read};
 use std::net::{SocketAddr, UdpSocket};
 use std::sync::mpsc::{channel, Receiver, Sender};
 use std::time::{Duration, Instant};
 use std::{env, ptr, thread};
 use stun_types::*;
-
-type Result<T> = std::result::Result<T, Box<dyn Error + Send + Sync>>;
 
 const BASE: u32 = 0;
 const COMPONENT: u16 = 1;
@@ -27,12 +22,6 @@ const PEER_REFLEXIVE: u32 = 110;
 /// The priority of a candidate whose type has this preference (RFC 8445, section 5.1.2.1).
 fn priority(preference: u32) -> u32 {
     (preference << 24) + (65535 << 8) + 256 - u32::from(COMPONENT)
-}
-
-fn random<const N: usize>() -> Result<[u8; N]> {
-    let mut bytes = [0; N];
-    File::open("/dev/urandom")?.read_exact(&mut bytes)?;
-    Ok(bytes)
 }
 
 fn random_text<const N: usize>() -> Result<String> {
@@ -123,8 +112,7 @@ impl Agent {
         let (now, name, secret) = (self.now(), ufrag.as_ptr(), password.as_ptr());
         let (name_length, length) = (ufrag.len(), password.len());
         check(unsafe { stun_types_ice_set_peer(&mut self.ice, now, name, name_length, secret, length) })?;
-        check(unsafe { stun_types_ice_end_candidates(&mut self.ice, now) })?;
-        Ok(())
+        check(unsafe { stun_types_ice_end_candidates(&mut self.ice, now) })
     }
 
     fn take_candidate(&mut self, line: &str) -> Result<()> {
@@ -137,26 +125,21 @@ impl Agent {
         let IceCandidate { address, priority, component, .. } = read;
         let remote = IceRemote { address, foundation: 1, priority, component, reserved: 0 };
         let now = self.now();
-        check(unsafe { stun_types_ice_add_remote(&mut self.ice, now, &remote) })?;
-        Ok(())
+        check(unsafe { stun_types_ice_add_remote(&mut self.ice, now, &remote) })
     }
 
     /// Keeps the connection for so long, or until the agent has failed.
     fn run(&mut self, length: Duration) -> Result<()> {
-        let end = self.now() + length.as_nanos() as u64;
+        let (end, mut datagram) = (self.now() + length.as_nanos() as u64, [0; ROOM]);
         loop {
             let wake = self.turn()?.min(end);
             let now = self.now();
             if self.has_failed || now >= end {
                 return Ok(());
             }
-            let wait = Duration::from_nanos(wake.saturating_sub(now)).max(Duration::from_micros(1));
-            self.socket.set_read_timeout(Some(wait))?;
-            let mut datagram = [0; ROOM];
-            match self.socket.recv_from(&mut datagram) {
-                Ok((length, source)) => self.receive(&datagram[..length], source)?,
-                Err(error) if error.kind() == io::ErrorKind::WouldBlock => {}
-                Err(error) => return Err(error.into()),
+            self.socket.set_read_timeout(Some(wait_until(wake, now)))?;
+            if let Some((length, source)) = received(self.socket.recv_from(&mut datagram))? {
+                self.receive(&datagram[..length], source)?;
             }
         }
     }

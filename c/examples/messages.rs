@@ -11,7 +11,7 @@ use stun_types::*;
 const RESPONSE: &[u8] = b"\x01\x01\x00\x0c\x21\x12\xa4\x42\xb7\xe7\xa7\x01\xbc\x34\xd6\x86\
     \xfa\x87\xdf\xae\x00\x20\x00\x08\x00\x01\xa1\x47\xe1\x12\xa6\x43";
 
-fn address_in(message: &[u8]) -> Result<String, String> {
+fn address_in(message: &[u8]) -> Result<String> {
     let (bytes, size) = (message.as_ptr(), message.len());
     let (mut found, mut address) = (Attribute::default(), Address::default());
     let wanted = STUN_TYPES_ATTRIBUTE_XOR_MAPPED_ADDRESS;
@@ -23,7 +23,7 @@ fn address_in(message: &[u8]) -> Result<String, String> {
     Ok(SocketAddr::from(address).to_string())
 }
 
-fn signed_request(user: &str, key: &Key) -> Result<Vec<u8>, String> {
+fn signed_request(user: &str, key: &Key) -> Result<Vec<u8>> {
     let (mut room, mut length) = ([0; 200], 0);
     let (at, size, sha256) = (room.as_mut_ptr(), room.len(), STUN_TYPES_INTEGRITY_SHA256);
     let (name, text, many) = (STUN_TYPES_ATTRIBUTE_USERNAME, user.as_ptr(), user.len());
@@ -39,7 +39,7 @@ fn signed_request(user: &str, key: &Key) -> Result<Vec<u8>, String> {
 }
 
 /// What a server without credentials replies to a datagram from 192.0.2.1:32853; no bytes if nothing.
-fn reply_to(datagram: &[u8]) -> Result<Vec<u8>, String> {
+fn reply_to(datagram: &[u8]) -> Result<Vec<u8>> {
     let source = Address::from(SocketAddr::from(([192, 0, 2, 1], 32853)));
     let mut room = vec![0; datagram.len() + 48]; // a reply is at most so much longer
     let (bytes, size, mut length) = (datagram.as_ptr(), datagram.len(), 0);
@@ -49,17 +49,17 @@ fn reply_to(datagram: &[u8]) -> Result<Vec<u8>, String> {
     Ok(room)
 }
 
-fn bytes_of(digits: &str) -> Result<Vec<u8>, String> {
+fn bytes_of(digits: &str) -> Result<Vec<u8>> {
     let pairs = (0..digits.len()).step_by(2);
     let read = pairs.map(|at| u8::from_str_radix(digits.get(at..at + 2).unwrap_or("?"), 16));
-    read.collect::<Result<_, _>>().map_err(|error| error.to_string())
+    Ok(read.collect::<std::result::Result<_, _>>()?)
 }
 
 fn hex(bytes: &[u8]) -> String {
     bytes.iter().map(|byte| format!("{byte:02x}")).collect()
 }
 
-fn main() -> Result<(), String> {
+fn main() -> Result<()> {
     println!("{}", address_in(RESPONSE)?);
     let (at, held, password) = (std::ptr::null_mut(), 0, "wonderland");
     let mut key = Key { at, held };

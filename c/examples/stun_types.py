@@ -169,3 +169,9 @@ def socket_address(address):
     """An address of the library, for a socket."""
     octets = bytes(address.octets)
     return str(ip_address(octets if address.family == 6 else octets[:4])), address.port
+
+
+def text_of(address):
+    """192.0.2.1:32853, or [2001:db8::1]:32853."""
+    host, port = socket_address(address)
+    return f"[{host}]:{port}" if address.family == 6 else f"{host}:{port}"

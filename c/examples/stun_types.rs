@@ -1,7 +1,11 @@
 //! What the examples in Rust need of stun_types.h: structs, numbers and calls, named as there.
 #![allow(dead_code)]
 
+use std::error::Error;
+use std::fs::File;
+use std::io::{self, Read};
 use std::net::{IpAddr, SocketAddr};
+use std::time::Duration;
 
 #[repr(C)] #[derive(Default)]
 pub struct Answer { pub code: u32, pub r#type: u32, pub expected: u64, pub actual: u64 }
@@ -138,10 +142,33 @@ extern "C" {
     pub fn stun_types_allocation_changes(client: *mut Allocation, change: *mut AllocationChange) -> bool;
 }
 
-pub fn check(answer: Answer) -> Result<(), String> {
+pub type Result<T> = std::result::Result<T, Box<dyn Error + Send + Sync>>;
+
+pub fn check(answer: Answer) -> Result<()> {
     match answer.code {
         0 => Ok(()),
-        code => Err(format!("the library returned the code {code}")),
+        code => Err(format!("the library returned the code {code}").into()),
+    }
+}
+
+pub fn random<const N: usize>() -> Result<[u8; N]> {
+    let mut bytes = [0; N];
+    File::open("/dev/urandom")?.read_exact(&mut bytes)?;
+    Ok(bytes)
+}
+
+/// How long a socket waits for a moment of the library: more than nothing, and at most a minute.
+pub fn wait_until(moment: u64, now: u64) -> Duration {
+    let wait = Duration::from_nanos(moment.saturating_sub(now));
+    wait.clamp(Duration::from_micros(1), Duration::from_secs(60))
+}
+
+/// What a socket has received, or nothing if it has waited for too long.
+pub fn received<T>(result: io::Result<T>) -> Result<Option<T>> {
+    match result {
+        Ok(received) => Ok(Some(received)),
+        Err(error) if error.kind() == io::ErrorKind::WouldBlock => Ok(None),
+        Err(error) => Err(error.into()),
     }
 }
 
