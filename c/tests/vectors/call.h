@@ -14,6 +14,9 @@ enum { ANY_ROOM = 66000 };
 char *call_word(void);
 const char *call_rest(void);
 
+/* From now on the words are those of this text, which next_part cuts, and the answer is empty. */
+void call_again(char *words);
+
 /* The next word as octets, as a number of hexadecimal digits, and as a decimal number. A word of
    another form makes the answer `?`. */
 slice call_octets(void);

@@ -7,8 +7,9 @@
 #include "../heap.h"
 #include "turn.h"
 
-/* The room for a message, the most requests that a response is waited for, and the most changes of an event. */
-enum { ICE_ROOM = 1500, MOST_REQUESTS = 200, MOST_CHANGES = 64, CHANGE_MOST = 100 };
+/* The room for a message, the most requests that a response is waited for, the most changes of an event, how often
+   a call may ask for a wake, and the longest call. */
+enum { ICE_ROOM = 1500, MOST_REQUESTS = 200, MOST_CHANGES = 64, CHANGE_MOST = 100, MOST_WAKES = 16, CALL_MOST = 1 << 16 };
 
 static const char own_fragment[] = "evtj", own_password[] = "VOkJxbRl1RmTxUk/WvJxBt";
 static const char peer_fragment[] = "h6vY", peer_password[] = "KPKLPQPlb6g8DVIXiyRPqZ";
@@ -23,6 +24,12 @@ static bool is_met, is_refused;
 /* When it wants to be polled, if nothing has come since a poll reported it. */
 static bool is_awake;
 static uint64_t wakes;
+
+/* Otherwise a poll would change the agent that is asked for its wake. So it is done with an agent of its own, which
+   is ended then, and the call begins again: the moments that were found so, and how many of them were used since. */
+static uint64_t moments[MOST_WAKES];
+static size_t moment_count, moments_used;
+static bool is_probed;
 
 /* The requests that were written and that no response has come to, the newest first: whether a response
    counts, no call reports. */
@@ -443,8 +450,8 @@ static void answer_request(const stun_types_ice_request *request, const uint8_t 
     request_count++;
 }
 
-static void poll(void) {
-    const uint64_t number = call_count();
+/* Polls with an ID, and answers what the request is; false if none is due. */
+static bool poll_with(uint64_t number) {
     const stun_types_id id = id_of_number(number);
     const slice id_given = given(&id, sizeof id);
     stun_types_ice_request *request = NEW(stun_types_ice_request);
@@ -455,12 +462,13 @@ static void poll(void) {
     CHECK(request->length <= ICE_ROOM && is_untouched(out + request->length, ICE_ROOM - request->length));
     is_awake = true;
     wakes = *wake;
-    if (request->length != 0) {
-        answer_request(request, out, number);
-        return;
-    }
-    CHECK(is_zero(request, sizeof *request));
-    answer_word("idle");
+    if (request->length != 0) answer_request(request, out, number);
+    else CHECK(is_zero(request, sizeof *request));
+    return request->length != 0;
+}
+
+static void poll(void) {
+    if (!poll_with(call_count())) answer_word("idle");
 }
 
 /* ---- what the agent is */
@@ -484,20 +492,35 @@ static void pair(void) {
     answer_word("none");
 }
 
-static void wake(void) {
+/* Polls, and keeps the moment for the next time: now if a request is due. */
+static void probe(void) {
+    uint64_t moment = now;
+    if (!poll_with(0)) moment = wakes;
+    CHECK(moment >= now);
+    if (moment_count == MOST_WAKES) answer_unknown();
+    else moments[moment_count++] = moment;
+    is_probed = true;
+}
+
+static void answer_wake(uint64_t moment) {
     char digits[10];
     size_t length;
     answer_space();
-    if (!is_awake) answer_unknown();
-    if (wakes == UINT64_MAX) {
+    if (moment == UINT64_MAX) {
         answer_text("wake:never");
         return;
     }
-    answer_text("wake:%llu", (unsigned long long)(wakes / 1000000000));
-    if (wakes % 1000000000 == 0) return;
-    snprintf(digits, sizeof digits, "%09u", (unsigned)(wakes % 1000000000));
+    answer_text("wake:%llu", (unsigned long long)(moment / 1000000000));
+    if (moment % 1000000000 == 0) return;
+    snprintf(digits, sizeof digits, "%09u", (unsigned)(moment % 1000000000));
     for (length = 9; digits[length - 1] == '0';) length--;
     answer_text(".%.*s", (int)length, digits);
+}
+
+static void wake(void) {
+    if (is_awake) answer_wake(wakes);
+    else if (moments_used < moment_count) answer_wake(moments[moments_used++]);
+    else probe();
 }
 
 static char changes[MOST_CHANGES][CHANGE_MOST];
@@ -607,7 +630,8 @@ static void make_keys(void) {
     heap_own(false);
 }
 
-static void answer_agent(void) {
+/* Makes an agent of the setup, and lets it have the events. */
+static void run_agent(void) {
     static const stun_types_ice none = STUN_TYPES_ICE_INIT;
     const stun_types_ice_settings settings = settings_of(call_word());
     const slice settings_given = given(&settings, sizeof settings);
@@ -615,8 +639,8 @@ static void answer_agent(void) {
     char *name;
     agent = (void *)copy(&none, sizeof none);
     now = 0;
-    is_met = is_refused = is_awake = false;
-    request_count = 0;
+    is_met = is_refused = is_awake = is_probed = false;
+    request_count = moments_used = 0;
     most_requests = settings.requests == 0 || settings.requests > MOST_REQUESTS ? MOST_REQUESTS
                                                                                  : settings.requests;
     make_keys();
@@ -624,12 +648,23 @@ static void answer_agent(void) {
     answer = stun_types_ice_new(agent, (const void *)settings_given.bytes);
     heap_measure(true);
     if (is_taken(answer))
-        while (!is_refused && (name = call_word()) != NULL) event(name);
-    answer_or_nothing();
+        while (!is_refused && !is_probed && (name = call_word()) != NULL) event(name);
     stun_types_ice_free(agent);
     CHECK(is_zero(agent, sizeof *agent));
     stun_types_key_free(&own_key);
     stun_types_key_free(&peer_key);
+}
+
+static void answer_agent(void) {
+    static char words[CALL_MOST], copied[CALL_MOST];
+    snprintf(words, sizeof words, "%s", call_rest());
+    moment_count = 0;
+    do {
+        strcpy(copied, words);
+        call_again(copied);
+        run_agent();
+    } while (is_probed);
+    answer_or_nothing();
 }
 
 const verb verbs_of_ice_agents[] = {{"agent", answer_agent, true}, {NULL, NULL, false}};

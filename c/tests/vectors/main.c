@@ -146,6 +146,12 @@ char *call_word(void) { return next_part(&rest, ' '); }
 
 const char *call_rest(void) { return rest == NULL ? "" : rest; }
 
+void call_again(char *words) {
+    rest = words;
+    answer_length = 0;
+    answer[0] = 0;
+}
+
 char *next_part(char **word, char mark) {
     char *part = *word, *end;
     if (part == NULL) return NULL;
