@@ -11,7 +11,7 @@
 
 #include "heap.h"
 
-enum { REGIONS = 512, HEX_MOST = 1 << 18 };
+enum { REGIONS = 4096, HEX_MOST = 1 << 18 };
 
 static guarded_side side;
 static const char *row_group, *row_name;

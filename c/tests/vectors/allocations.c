@@ -5,6 +5,7 @@
 
 #include "../heap.h"
 #include "turn.h"
+#include "wakes.h"
 
 /* The most peers of a row, and the room for a request: more than any has here. */
 enum { MOST_PEERS = 64, REQUEST_ROOM = 1500 };
@@ -294,13 +295,19 @@ static bool poll(void) {
     return true;
 }
 
-/* When the client wants to be polled, as the last poll said, after which nothing else has come. */
+/* When the client wants to be polled: now if a poll would write a request. */
 static bool wake(void) {
-    if (!is_awake) answer_unknown();
+    uint64_t moment = wakes;
+    if (!is_awake && !wakes_next(&moment)) {
+        const size_t before = answer_count();
+        if (!poll()) return false;
+        wakes_keep(answer_count() == before ? wakes : now);
+        return true;
+    }
     answer_space();
     answer_text("wakes:");
-    if (wakes == UINT64_MAX) answer_text("-");
-    else answer_moment(wakes);
+    if (moment == UINT64_MAX) answer_text("-");
+    else answer_moment(moment);
     return true;
 }
 
@@ -321,7 +328,7 @@ static bool event(const char *name) {
 /* Answers the events that are left; false if there was no memory. */
 static bool answer_events(void) {
     char *name;
-    while ((name = call_word()) != NULL) {
+    while (!wakes_has_ended() && (name = call_word()) != NULL) {
         const size_t before = answer_count();
         if (strcmp(name, "at") == 0) {
             char *moment = call_word();
@@ -339,7 +346,7 @@ static bool answer_events(void) {
     return true;
 }
 
-static void answer_client(void) {
+static void run_client(void) {
     static stun_types_allocation none = STUN_TYPES_ALLOCATION_INIT;
     const stun_types_allocation_settings settings = settings_of(call_word());
     const slice settings_given = given(&settings, sizeof settings);
@@ -354,5 +361,7 @@ static void answer_client(void) {
     if (is_taken(answer)) answer_events();
     stun_types_allocation_free(client);
 }
+
+static void answer_client(void) { wakes_run(run_client); }
 
 const verb verbs_of_allocations[] = {{"client", answer_client, true}, {NULL, NULL, false}};

@@ -6,10 +6,10 @@
 
 #include "../heap.h"
 #include "turn.h"
+#include "wakes.h"
 
-/* The room for a message, the most requests that a response is waited for, the most changes of an event, how often
-   a call may ask for a wake, and the longest call. */
-enum { ICE_ROOM = 1500, MOST_REQUESTS = 200, MOST_CHANGES = 64, CHANGE_MOST = 100, MOST_WAKES = 16, CALL_MOST = 1 << 16 };
+/* The room for a message, the most requests that a response is waited for, and the most changes of an event. */
+enum { ICE_ROOM = 1500, MOST_REQUESTS = 200, MOST_CHANGES = 64, CHANGE_MOST = 100 };
 
 static const char own_fragment[] = "evtj", own_password[] = "VOkJxbRl1RmTxUk/WvJxBt";
 static const char peer_fragment[] = "h6vY", peer_password[] = "KPKLPQPlb6g8DVIXiyRPqZ";
@@ -24,12 +24,6 @@ static bool is_met, is_refused;
 /* When it wants to be polled, if nothing has come since a poll reported it. */
 static bool is_awake;
 static uint64_t wakes;
-
-/* Otherwise a poll would change the agent that is asked for its wake. So it is done with an agent of its own, which
-   is ended then, and the call begins again: the moments that were found so, and how many of them were used since. */
-static uint64_t moments[MOST_WAKES];
-static size_t moment_count, moments_used;
-static bool is_probed;
 
 /* The requests that were written and that no response has come to, the newest first: whether a response
    counts, no call reports. */
@@ -492,15 +486,6 @@ static void pair(void) {
     answer_word("none");
 }
 
-/* Polls, and keeps the moment for the next time: now if a request is due. */
-static void probe(void) {
-    uint64_t moment = now;
-    if (!poll_with(0)) moment = wakes;
-    CHECK(moment >= now);
-    if (moment_count == MOST_WAKES) answer_unknown();
-    else moments[moment_count++] = moment;
-    is_probed = true;
-}
 
 static void answer_wake(uint64_t moment) {
     char digits[10];
@@ -517,10 +502,11 @@ static void answer_wake(uint64_t moment) {
     answer_text(".%.*s", (int)length, digits);
 }
 
+/* The moment is now if a poll would write a request. */
 static void wake(void) {
-    if (is_awake) answer_wake(wakes);
-    else if (moments_used < moment_count) answer_wake(moments[moments_used++]);
-    else probe();
+    uint64_t moment = wakes;
+    if (is_awake || wakes_next(&moment)) answer_wake(moment);
+    else wakes_keep(poll_with(0) ? now : wakes);
 }
 
 static char changes[MOST_CHANGES][CHANGE_MOST];
@@ -639,8 +625,8 @@ static void run_agent(void) {
     char *name;
     agent = (void *)copy(&none, sizeof none);
     now = 0;
-    is_met = is_refused = is_awake = is_probed = false;
-    request_count = moments_used = 0;
+    is_met = is_refused = is_awake = false;
+    request_count = 0;
     most_requests = settings.requests == 0 || settings.requests > MOST_REQUESTS ? MOST_REQUESTS
                                                                                  : settings.requests;
     make_keys();
@@ -648,7 +634,7 @@ static void run_agent(void) {
     answer = stun_types_ice_new(agent, (const void *)settings_given.bytes);
     heap_measure(true);
     if (is_taken(answer))
-        while (!is_refused && !is_probed && (name = call_word()) != NULL) event(name);
+        while (!is_refused && !wakes_has_ended() && (name = call_word()) != NULL) event(name);
     stun_types_ice_free(agent);
     CHECK(is_zero(agent, sizeof *agent));
     stun_types_key_free(&own_key);
@@ -656,14 +642,7 @@ static void run_agent(void) {
 }
 
 static void answer_agent(void) {
-    static char words[CALL_MOST], copied[CALL_MOST];
-    snprintf(words, sizeof words, "%s", call_rest());
-    moment_count = 0;
-    do {
-        strcpy(copied, words);
-        call_again(copied);
-        run_agent();
-    } while (is_probed);
+    wakes_run(run_agent);
     answer_or_nothing();
 }
 
