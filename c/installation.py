@@ -67,7 +67,8 @@ def installed(lib="lib"):
 
 def shown_examples():
     """The examples that a release has."""
-    kinds = ("messages.*", "turn_client.*", "stun_types.*", "ice_*", "own_hmacs.h", "hmac_*.c", "addresses.h", "datagrams.h")
+    kinds = ["messages.*", "turn_client.*", "stun_types.*", "ice_*", "own_hmacs.h", "hmac_*.c", "addresses.h",
+             "datagrams.h"]
     return sorted(it for kind in kinds for it in (HERE / "examples").glob(kind))
 
 
