@@ -1,21 +1,15 @@
 """What bench/relays --kernel measures: relaying between three hosts, which are networks of this machine."""
 import contextlib
-import ctypes
-import fcntl
 import hashlib
 import pathlib
-import re
-import socket
 import statistics
-import struct
 import subprocess
 import sys
-import time
 
 import serving
 
 sys.path[:0] = [str(serving.TOP / "c"), str(serving.TOP / "c/server/trials")]
-from hosts import Host
+from hosts import Host, mount_pins, write_checksums
 
 # for tests of networks (RFC 2544); the last is that with no host between
 SERVER, CLIENTS, PEERS, RELAYS = "198.18.1.1", "198.18.1.2", "198.18.2.2", "198.18.2.1"
@@ -54,15 +48,6 @@ class Network:
     def forward(self, forwards):
         with self.server.inside(), open("/proc/sys/net/ipv4/ip_forward", "w") as forward:
             forward.write(str(int(forwards)))
-
-
-def write_checksums(host, device):
-    """Has whoever sends by a device write checksums and cut datagrams, as what comes by a wire is."""
-    with host.inside(), socket.socket(socket.AF_INET, socket.SOCK_DGRAM) as asking:
-        for command in (0x17, 0x21, 0x2C):  # (ETHTOOL_STXCSUM, ETHTOOL_SUFO, ETHTOOL_SGRO)
-            off = ctypes.create_string_buffer(struct.pack("II", command, 0))
-            with contextlib.suppress(OSError):
-                fcntl.ioctl(asking, 0x8946, struct.pack("16sP", device.encode(), ctypes.addressof(off)) + bytes(16))
 
 
 class Server:
@@ -129,6 +114,7 @@ def microseconds(mode, network, folder, count, size):
 
 def print_table(folder, rounds, has_coturn):
     modes = [it for it in MODES if it != "coturn" or has_coturn]
+    mount_pins()
     subprocess.run([serving.TOP / "c/server/kernel/build", *unproved(folder), folder / "kernel"], check=True,
                    stdout=subprocess.DEVNULL)
     print("| Octets, channels |", *(f"{MODES[it]} |" for it in modes), "Ratios |")
