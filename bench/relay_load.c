@@ -12,6 +12,8 @@
  *     -l LIFETIME     asked for, in seconds (600)
  *     -c              channels; otherwise Send and Data indications
  *     -t              over TCP
+ *     -N NAMESPACE    of the network in which the peers are, a path
+ *     -d              directly, with no server: ADDRESS and PORT are ignored, and clients send to peers
  *     -f, -p          the addresses of clients and of peers (127.0.0.3, 127.0.0.2)
  *     -u, -k          the user, and MD5("USER:REALM:PASSWORD") in hexadecimal digits
  *
@@ -23,6 +25,7 @@
  *     open      allocations alone, each by a request without credentials and one with them
  *     renew, permit, bind   each allocation, permission or channel alone
  *     release   each allocation, by a lifetime of 0
+ *     direct    instead of allocate, with -d
  *     flood     Allocate requests without credentials, DATAGRAMS of each client, without waiting for
  *               responses; it pauses while the server's socket has more than it reads in a moment
  *
@@ -31,14 +34,16 @@
  * at the client; what else comes is wrong or repeated. A client that hears nothing for half a second
  * sends on. Requests are repeated over UDP.
  *
- * The addresses are within 127.0.0.0/8; no other is taken. The status is 0 if nothing was lost, wrong,
+ * The addresses are within 127.0.0.0/8, or 198.18.0.0/15 for tests (RFC 2544). The status is 0 if nothing was lost, wrong,
  * repeated or refused, 1 if something was, and 2 if it couldn't begin. It reads messages by code of its
  * own, so that it checks the server's library and not itself. */
 #define _GNU_SOURCE
 #include <arpa/inet.h>
 #include <errno.h>
 #include <netinet/in.h>
+#include <fcntl.h>
 #include <netinet/tcp.h>
+#include <sched.h>
 #include <signal.h>
 #include <stdbool.h>
 #include <stdio.h>
@@ -73,7 +78,8 @@ enum {
 /* What the arguments ask for. */
 static struct {
     int allocations, datagrams, size, window, all, interval, lifetime;
-    bool channels, stream;
+    bool channels, stream, direct;
+    const char *network;
     struct in_addr clients, peers;
     const char *user;
     uint8_t key[16];
@@ -261,7 +267,8 @@ static void be_peers(int ready) {
     struct epoll_event events[256];
     prctl(PR_SET_PDEATHSIG, SIGKILL);
     errno = 0;
-    bool opened = open_peers();
+    int network = asked.network != NULL ? open(asked.network, O_RDONLY | O_CLOEXEC) : -1;
+    bool opened = (asked.network == NULL || setns(network, CLONE_NEWNET) == 0) && open_peers();
     int error = opened ? 0 : errno;
     if (write(ready, &error, sizeof error) != sizeof error || !opened) _exit(2);
     for (;;) {
@@ -473,6 +480,10 @@ static bool take_response(client *of, const uint8_t *bytes, size_t length) {
 
 /* The data in a message of the server, and its length; NULL: it has none for this client. */
 static const uint8_t *data_in(const client *of, const uint8_t *bytes, size_t length, size_t *found) {
+    if (asked.direct) {
+        *found = length;
+        return bytes;
+    }
     if (asked.channels) {
         if (length < 4 || short_at(bytes) != channel_of(of)) return NULL;
         *found = short_at(bytes + 2);
@@ -569,6 +580,10 @@ static void receive_some(int timeout) {
 static size_t write_message(uint8_t *at, const client *from, uint32_t sequence, uint64_t now) {
     size_t length = (size_t)asked.size, front = 4;
     uint8_t peer[8];
+    if (asked.direct) {
+        write_data(at, index_of(from), sequence, now);
+        return length;
+    }
     if (asked.channels) {
         put16(at, channel_of(from));
     } else {
@@ -804,6 +819,20 @@ static void flood(void) {
            took);
 }
 
+/* Connects each client to its peer. */
+static void connect_directly(void) {
+    for (int i = 0; i < asked.allocations; i++) {
+        struct sockaddr_in at = {.sin_family = AF_INET};
+        socklen_t length = sizeof at;
+        memcpy(&at.sin_addr, shared->places[i].peer, 4);
+        memcpy(&at.sin_port, shared->places[i].peer + 4, 2);
+        if (connect(clients[i].socket, (struct sockaddr *)&at, sizeof at) != 0) fail(&clients[i], 0);
+        getsockname(clients[i].socket, (struct sockaddr *)&at, &length);
+        keep_place(shared->places[i].relayed, &at);
+    }
+    printf("direct: %d, failed %llu,\n", asked.allocations, (unsigned long long)failures);
+}
+
 /* Obeys the commands. Returns whether all was as it should be. */
 static bool obey(void) {
     char line[64];
@@ -821,6 +850,7 @@ static bool obey(void) {
         else if (strcmp(line, "release") == 0) transact(line, RELEASE);
         else if (strcmp(line, "relay") == 0) relay();
         else if (strcmp(line, "flood") == 0) flood();
+        else if (strcmp(line, "direct") == 0) connect_directly();
         else return false;
         fflush(stdout);
         right = right && failures == 0 && wrong == 0 && repeated == 0 && back == sum_sent();
@@ -838,7 +868,8 @@ static bool open_client(client *opened) {
     if (asked.stream) opened->bytes = malloc(STREAM_ROOM);
     if (opened->socket < 0 || opened->seen == NULL) return false;
     if (asked.stream && opened->bytes == NULL) return false;
-    if (connect(opened->socket, (const struct sockaddr *)&asked.server, sizeof asked.server) != 0) return false;
+    const struct sockaddr *server = (const struct sockaddr *)&asked.server;
+    if (!asked.direct && connect(opened->socket, server, sizeof asked.server) != 0) return false;
     int on = 1;
     if (asked.stream) setsockopt(opened->socket, IPPROTO_TCP, TCP_NODELAY, &on, sizeof on);
     return watch(opened->socket, index_of(opened));
@@ -881,8 +912,10 @@ static bool read_number(const char *text, int least, int most, int *number) {
     return *text >= '0' && *text <= '9' && *end == 0 && read >= least && read <= most;
 }
 
-static bool read_loopback(const char *text, struct in_addr *address) {
-    return inet_pton(AF_INET, text, address) == 1 && ntohl(address->s_addr) >> 24 == 127;
+/* Whether a text is an address of the loopback, or one for tests (RFC 2544). */
+static bool read_own(const char *text, struct in_addr *address) {
+    return inet_pton(AF_INET, text, address) == 1 &&
+           (ntohl(address->s_addr) >> 24 == 127 || ntohl(address->s_addr) >> 17 == (198 << 8 | 18) >> 1);
 }
 
 static bool read_key(const char *text) {
@@ -904,11 +937,13 @@ static bool read_option(int option, const char *value) {
     case 'a': return read_number(value, 1, 1 << 20, &asked.all);
     case 'i': return read_number(value, 1, 10000000, &asked.interval);
     case 'l': return read_number(value, 1, 86400, &asked.lifetime);
-    case 'f': return read_loopback(value, &asked.clients);
-    case 'p': return read_loopback(value, &asked.peers);
+    case 'f': return read_own(value, &asked.clients);
+    case 'p': return read_own(value, &asked.peers);
     case 'u': return (asked.user = value)[0] != 0 && strlen(value) <= 128;
     case 'k': return read_key(value);
     case 'c': return asked.channels = true;
+    case 'd': return asked.direct = true;
+    case 'N': return (asked.network = value)[0] != 0;
     case 't': return asked.stream = true;
     default: return false;
     }
@@ -917,7 +952,7 @@ static bool read_option(int option, const char *value) {
 static bool read_server(const char *address, const char *port) {
     int number;
     asked.server.sin_family = AF_INET;
-    if (!read_loopback(address, &asked.server.sin_addr) || !read_number(port, 1, 65535, &number)) return false;
+    if (!read_own(address, &asked.server.sin_addr) || !read_number(port, 1, 65535, &number)) return false;
     asked.server.sin_port = htons((uint16_t)number);
     return true;
 }
@@ -926,7 +961,7 @@ int main(int count, char **arguments) {
     int option;
     asked.clients.s_addr = htonl(0x7F000003);
     asked.peers.s_addr = htonl(0x7F000002);
-    while ((option = getopt(count, arguments, "n:m:s:w:a:i:l:f:p:u:k:ct")) != -1) {
+    while ((option = getopt(count, arguments, "n:m:s:w:a:i:l:f:p:u:k:ctdN:")) != -1) {
         if (!read_option(option, optarg)) return usage();
     }
     if (count - optind != 2 || !read_server(arguments[optind], arguments[optind + 1])) return usage();

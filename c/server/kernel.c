@@ -162,6 +162,37 @@ static void close_maps(void) {
     kernel.is_on = false;
 }
 
+/* ---- Addresses ------------------------------------------------------------------------------- */
+
+static struct ip ip_of(const stun_types_address *address) {
+    struct ip made = {{0}};
+    if (address->family == 6) {
+        memcpy(made.octets, address->octets, 16);
+    } else {
+        made.octets[10] = made.octets[11] = 0xff;
+        memcpy(made.octets + 12, address->octets, 4);
+    }
+    return made;
+}
+
+static bool is_among(const struct own_place *places, int count, const stun_types_address *address) {
+    struct ip ip = ip_of(address);
+    for (const struct own_place *at = places; at < places + count; at++) {
+        if (at->most == 0 || memcmp(&at->ip, &ip, sizeof ip) != 0) continue;
+        if (address->port >= at->least && address->port <= at->most) return true;
+    }
+    return false;
+}
+
+/* Whether the program relays for clients of an endpoint, which may stand for several addresses. */
+static bool is_listening(const endpoint *at) {
+    if (!at->wildcard) return is_among(kernel.own.listening, MOST_LISTENING_PLACES, &at->address);
+    for (const struct own_place *it = kernel.own.listening; it < kernel.own.listening + MOST_LISTENING_PLACES; it++) {
+        if (at->address.port >= it->least && at->address.port <= it->most) return true;
+    }
+    return false;
+}
+
 /* ---- The supervisor -------------------------------------------------------------------------- */
 
 /* Lists the addresses of this machine, with their interfaces. */
@@ -199,6 +230,14 @@ static bool is_watched(uint32_t interface) {
     return false;
 }
 
+/* Whether the program relays for clients of one of the sockets. */
+static bool any_listens(const endpoints *of) {
+    for (size_t i = 0; i < of->count; i++) {
+        if (!of->all[i].stream && is_listening(&of->all[i])) return true;
+    }
+    return false;
+}
+
 /* Locks the folder of the pins: another server may use them. */
 static bool lock_folder(void) {
     kernel.folder = open(RELAY_FOLDER, O_RDONLY | O_DIRECTORY | O_CLOEXEC);
@@ -206,7 +245,7 @@ static bool lock_folder(void) {
 }
 
 /* Why the kernel doesn't relay; NULL: it does. */
-static const char *open_all_maps(void) {
+static const char *open_all_maps(const endpoints *of) {
     const char *near = text_setting(KERNEL, 0), *far = text_setting(KERNEL, 1);
     kernel.near = if_nametoindex(near);
     kernel.far = far != NULL ? if_nametoindex(far) : kernel.near;
@@ -216,6 +255,7 @@ static const char *open_all_maps(void) {
     if (!is_locked || !open_maps()) return errno == EPERM || errno == EACCES ? "no-rights" : "not-loaded";
     errno = 0;
     if (!is_watched(kernel.near) || !is_watched(kernel.far)) return "other-interface";
+    if (!any_listens(of)) return "other-addresses";
     if (!has_kernel_clock()) return "other-clock";
     return list_machine() ? NULL : "no-addresses";
 }
@@ -228,7 +268,7 @@ void open_kernel(const endpoints *of) {
     if (text_setting(KERNEL, 0) == NULL) return;
     for (size_t i = 0; i < of->count; i++) workers += of->all[i].stream ? 0 : of->all[i].workers;
     errno = 0;
-    const char *reason = workers == 0 ? "no-udp" : open_all_maps();
+    const char *reason = workers == 0 ? "no-udp" : open_all_maps(of);
     if (reason != NULL) {
         say(WARNING, "event=kernel-off reason=%s error=%d\n", reason, errno);
         close_maps();
@@ -379,26 +419,6 @@ static void end_pair(uint32_t number) {
 }
 
 /* ---- Which channels the kernel can relay ----------------------------------------------------- */
-
-static struct ip ip_of(const stun_types_address *address) {
-    struct ip made = {{0}};
-    if (address->family == 6) {
-        memcpy(made.octets, address->octets, 16);
-    } else {
-        made.octets[10] = made.octets[11] = 0xff;
-        memcpy(made.octets + 12, address->octets, 4);
-    }
-    return made;
-}
-
-static bool is_among(const struct own_place *places, int count, const stun_types_address *address) {
-    struct ip ip = ip_of(address);
-    for (const struct own_place *at = places; at < places + count; at++) {
-        if (at->most == 0 || memcmp(&at->ip, &ip, sizeof ip) != 0) continue;
-        if (address->port >= at->least && address->port <= at->most) return true;
-    }
-    return false;
-}
 
 /* The address that this machine sends from to another one; false: it sends nothing there. */
 static bool find_source(const stun_types_address *to, stun_types_address *source) {

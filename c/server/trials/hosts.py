@@ -2,17 +2,20 @@
 import concurrent.futures
 import contextlib
 import ctypes
+import fcntl
 import os
 import pathlib
 import shutil
 import socket
+import struct
 import subprocess
 import threading
 import time
 
 from steps import PATIENCE, Skipped, Wrong, check, run, wait_until
 
-NEW_NETWORK = 0x40000000
+NEW_NETWORK, NEW_MOUNTS, PRIVATE = 0x40000000, 0x20000, 0x44000
+PINS = "/sys/fs/bpf"
 LIBC = ctypes.CDLL(None, use_errno=True)
 # for documentation (RFC 5737, RFC 3849): a server has to allow them
 SERVER = ("192.0.2.1", "2001:db8::1")
@@ -35,6 +38,23 @@ def new_network():
         return own_network()
     with concurrent.futures.ThreadPoolExecutor(1) as own:
         return own.submit(make).result()
+
+
+def mount_pins():
+    """Gives this thread, and what it starts, mounts of its own, with an empty folder for pins of BPF."""
+    if LIBC.unshare(NEW_MOUNTS) != 0 or LIBC.mount(b"none", b"/", None, PRIVATE, None) != 0:
+        raise Skipped("it needs the right to mount, as root has it")
+    if LIBC.mount(b"bpf", PINS.encode(), b"bpf", 0, None) != 0:
+        raise Skipped(f"no BPF file system can be mounted at {PINS}")
+
+
+def write_checksums(host, device):
+    """Has whoever sends by a device write checksums and cut datagrams, as what comes by a wire is."""
+    with host.inside(), socket.socket(socket.AF_INET, socket.SOCK_DGRAM) as asking:
+        for command in (0x17, 0x21, 0x2C):  # (ETHTOOL_STXCSUM, ETHTOOL_SUFO, ETHTOOL_SGRO)
+            off = ctypes.create_string_buffer(struct.pack("II", command, 0))
+            with contextlib.suppress(OSError):
+                fcntl.ioctl(asking, 0x8946, struct.pack("16sP", device.encode(), ctypes.addressof(off)) + bytes(16))
 
 
 class Host:

@@ -2,27 +2,21 @@
 import concurrent.futures
 import contextlib
 import ctypes
-import fcntl
 import functools
 import os
 import platform
 import random
 import signal
-import socket
 import struct
 import time
 
 from harness import free_port
-from hosts import LEFT, LIBC, NETWORKS, RIGHT, SERVER, Hosts
-from operators import write
-from steps import Skipped, check, run, wait_until
+from hosts import LEFT, LIBC, NETWORKS, PINS, RIGHT, SERVER, Hosts, mount_pins, write_checksums
+from steps import Skipped, check, run
 from turn import Client, Peer, ended, reset, turn_server
 
-NEW_MOUNTS, PRIVATE = 0x20000, 0x44000
-PINS = "/sys/fs/bpf"
 CALLS = {"x86_64": 321, "aarch64": 280}
-FLOWS, MOST_FLOWS, FLOW = "flows", 65536, 192  # a flow's bytes, and of these its channel number and its end
-NUMBER, UNTIL = 36, 80
+FLOWS, FLOW, UNTIL = "flows", 192, 80  # a flow's bytes, and where its end is
 SECOND = 10 ** 9
 
 
@@ -31,24 +25,14 @@ def with_mounts(function):
     @functools.wraps(function)
     def trial(programs):
         def run_there():
-            if LIBC.unshare(NEW_MOUNTS) != 0 or LIBC.mount(b"none", b"/", None, PRIVATE, None) != 0:
-                raise Skipped("it needs the right to mount, as root has it")
-            if LIBC.mount(b"bpf", PINS.encode(), b"bpf", 0, None) != 0:
-                raise Skipped(f"no BPF file system can be mounted at {PINS}")
+            mount_pins()
             with Hosts() as hosts:
-                whole_checksums(hosts)
+                for host in (hosts.left, hosts.right):
+                    write_checksums(host, "uplink")
                 function(programs, hosts)
         with concurrent.futures.ThreadPoolExecutor(1) as own:
             own.submit(run_there).result()
     return trial
-
-
-def whole_checksums(hosts):
-    """Has clients and peers write checksums, which otherwise their devices do, and a veth never."""
-    for host in (hosts.left, hosts.right):
-        with host.inside(), socket.socket(socket.AF_INET, socket.SOCK_DGRAM) as asking:
-            off = ctypes.create_string_buffer(struct.pack("II", 0x17, 0))
-            fcntl.ioctl(asking, 0x8946, struct.pack("16sP", b"uplink", ctypes.addressof(off)) + bytes(16))
 
 
 BY = ["-o", "kernel=left", "-o", "kernel=right"]
@@ -353,6 +337,7 @@ def without(programs, hosts):
     under_unit = ["unshare", "-m", "sh", "-ec", UNIT_MOUNTS, *as_nobody]
     for reason, load_for, how in (("not-loaded", None, {}), ("no-interface", (), {"by": ["-o", "kernel=none"]}),
                                   ("other-interface", (), {"by": ["-o", "kernel=lo"]}),
+                                  ("other-addresses", None, {}),
                                   ("no-rights", (), {"command": as_nobody}), (None, ("-U", "65534"), {"command": under_unit})):
         with relaying(programs, hosts, load_for=load_for, **how) as server, Pair(hosts, server) as pair:
             if reason:
