@@ -266,12 +266,11 @@ static uint64_t poll_at(stun_types_ice *agent, uint64_t now, stun_types_answer e
 }
 
 /* A fifth request without a response takes memory. If there is none, it is still due. */
-static void test_growth(void) {
+static void check_growth(void) {
     const slice fragment = text("h6vY"), password = text("KPKLPQPlb6g8DVIXiyRPqZ");
     stun_types_ice_checked *pair = NEW(stun_types_ice_checked);
     stun_types_ice *agent = agent_of(good_settings());
     uint64_t now = 0;
-    row("an ICE agent", "no memory for a fifth request");
     ANSWERS(stun_types_ice_add_base(agent, 0, good_base()), OK_ANSWER);
     ANSWERS(stun_types_ice_add_remote(agent, 0, good_remote()), OK_ANSWER);
     ANSWERS(stun_types_ice_set_peer(agent, 0, fragment.bytes, 4, password.bytes, password.length), OK_ANSWER);
@@ -289,7 +288,8 @@ static void test_growth(void) {
 static void test_messages(void) {
     row("an ICE agent", "messages that are refused");
     check_messages();
-    test_growth();
+    row("an ICE agent", "no memory for a fifth request");
+    check_growth();
 }
 
 /* ---- candidates' texts */

@@ -451,10 +451,15 @@ static bool poll_with(uint64_t number) {
     stun_types_ice_request *request = NEW(stun_types_ice_request);
     uint64_t *wake = NEW(uint64_t);
     uint8_t *out = room(ICE_ROOM);
+    stun_types_answer answer;
     heap_measure(false);
-    ANSWERS(stun_types_ice_poll(agent, now, (const void *)id_given.bytes, out, ICE_ROOM, request, wake),
-            OK_ANSWER);
+    answer = stun_types_ice_poll(agent, now, (const void *)id_given.bytes, out, ICE_ROOM, request, wake);
     heap_measure(true);
+    if (!is_taken(answer)) {
+        CHECK(is_zero(request, sizeof *request) && *wake == now && is_untouched(out, ICE_ROOM));
+        is_refused = true;
+        return;
+    }
     CHECK(request->length <= ICE_ROOM && is_untouched(out + request->length, ICE_ROOM - request->length));
     is_awake = true;
     wakes = *wake;
