@@ -1,17 +1,16 @@
 -- A client's relayed addresses change in their slots, and so in the list.
-use Rattle.std.proofs.Common.{◌≡◌, ℕ, ◌+◌, ◌<◌, ◌≤◌, zero, suc, Bool, true, false, not, cond, List, [], ◌∷◌, map, length, Option, None, Some, get_or, set, refl, sym, ap, ◌∙◌, subst, arith, inl, inr, eqb-true, eq-eqb}
+use Rattle.std.proofs.Common.{◌≡◌, ℕ, zero, suc, Bool, true, false, cond, List, [], ◌∷◌, map, length, Option, None, Some, get_or, set, refl, sym, ap, ◌∙◌, subst, arith, inl, inr, eqb-true, eq-eqb}
 use Rattle.std.specs.List.{AllByRecursion}
 use Rattle.std.specs.Option.{option_map_or}
-use Rattle.std.specs.Prelude.{◌⊎◌, ◌&&◌, ◌||◌, ◌==◌}
+use Rattle.std.specs.Prelude.{◌⊎◌, ◌&&◌, ◌==◌}
 use Rattle.std.proofs.lemmas.Bool.{cond_both, cond-true, cond-false, and_parts, and_from, and_left, and_right, or_cases, cases_Bool, false_from_ne_true}
 use Rattle.std.proofs.lemmas.List.{length-set}
 use Rattle.stun_endpoints.specs.declared.endpoints.FiveTuple.{FiveTuple}
 use Rattle.stun_endpoints.specs.Endpoints.{is_tuple}
 use Rattle.turn_machine.specs.Relays.{Relay, is_of, is_for, is_users, is_owned}
-use Rattle.turn_relays.specs.Relayed.{number_of}
 use Rattle.turn_relays.specs.Following.{listed, EachOf, ListFollowsSlots}
 use Rattle.turn_relays.specs.Listing.{HasAt, ListHasSlots}
-use Rattle.turn_allocations.proofs.OwnLemmas.{IsAlone, Found, free, alone, is_family_of}
+use Rattle.turn_allocations.proofs.OwnLemmas.{Found, free, alone, is_family_of}
 
 -- ---- A slot that is set
 

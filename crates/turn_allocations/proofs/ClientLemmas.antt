@@ -1,9 +1,9 @@
 -- What the code finds of a client is what the machine asks of it.
-use Rattle.std.proofs.Common.{◌≡◌, ℕ, ◌+◌, ◌<◌, ◌≤◌, zero, suc, Bool, true, false, not, cond, List, [], ◌∷◌, map, filter, find, length, Option, None, Some, get_or, refl, sym, ap, ◌∙◌, subst, arith, inl, inr, eqb-true, eq-eqb, min}
+use Rattle.std.proofs.Common.{◌≡◌, ℕ, Bool, true, false, not, cond, List, [], ◌∷◌, map, find, Option, None, Some, refl, sym, ap, ◌∙◌, subst, arith, eqb-true, eq-eqb, min}
 use Rattle.std.specs.List.{AllByRecursion, list_any}
 use Rattle.std.specs.Option.{option_map, option_map_or}
-use Rattle.std.specs.Prelude.{◌⊎◌, ◌&&◌, ◌||◌, ◌==◌, nat_lt, option_and_then, is_some}
-use Rattle.std.proofs.lemmas.Bool.{cond_both, cond-true, cond-false, and_parts, and_from, and_left, cases_Bool}
+use Rattle.std.specs.Prelude.{◌&&◌, ◌||◌, ◌==◌, nat_lt, option_and_then, is_some}
+use Rattle.std.proofs.lemmas.Bool.{cond_both, cond-true, cond-false, and_parts, and_left}
 use Rattle.stun_endpoints.specs.declared.endpoints.FiveTuple.{FiveTuple}
 use Rattle.turn_machine.specs.Relays.{Relay, is_of, is_for, is_users, is_owned}
 use Rattle.turn_machine.specs.Events.{Given as GivenAddress}
@@ -11,17 +11,15 @@ use Rattle.turn_machine.specs.Times.{first_end, earlier_of}
 use Rattle.turn_machine.specs.Opening.{has_of, given_to}
 use Rattle.turn_machine.specs.Rows.{has_any, has_of_another, is_of_another}
 use Rattle.turn_relays.specs.Newest.{put, newest_first}
-use Rattle.turn_relays.specs.Relayed.{Table, state_of, number_of, at_slot}
-use Rattle.turn_relays.specs.Following.{listed, EachOf, ListFollowsSlots}
-use Rattle.turn_relays.specs.Listing.{HasAt, ListHasSlots}
-use Rattle.turn_allocations.specs.declared.answer.Given.{Given}
+use Rattle.turn_relays.specs.Relayed.{Table, state_of, number_of}
+use Rattle.turn_relays.specs.Following.{listed, EachOf}
+use Rattle.turn_relays.specs.Listing.{ListHasSlots}
 use Rattle.turn_allocations.specs.declared.client.Place.{Place}
 use Rattle.turn_allocations.specs.declared.client.Client.{Client}
-use Rattle.turn_allocations.specs.declared.families.Families.{Families}
 use Rattle.turn_allocations.specs.Answers.{given_in, given_list}
-use Rattle.turn_allocations.specs.Clients.{Identity, identity_of, seen, is_sound, AreSound, IsAt, IsFound, in_place, place_any, given_at, Owns}
+use Rattle.turn_allocations.specs.Clients.{Identity, identity_of, is_sound, AreSound, IsFound, in_place, place_any, given_at, Owns}
 use Rattle.turn_allocations.specs.Requests.{number_in}
-use Rattle.turn_allocations.proofs.OwnLemmas.{Within, any_kept, find_kept, first_kept, two, any_in, any_two, find_two_first, find_two_second, other_family, Found, free, alone, is_family_of, all_own}
+use Rattle.turn_allocations.proofs.OwnLemmas.{Within, any_kept, find_kept, first_kept, two, any_in, any_two, find_two_first, find_two_second, other_family, Found, free, alone, is_family_of}
 
 -- ---- One place
 

@@ -1,14 +1,12 @@
 -- Relayed addresses end one by one: what is left, and how often each number is among those that ended.
-use Rattle.std.proofs.Common.{◌≡◌, ℕ, ◌+◌, ◌<◌, ◌≤◌, zero, suc, Bool, true, false, not, cond, List, [], ◌∷◌, ◌++◌, map, filter, length, Option, None, Some, get_or, set, refl, sym, ap, ◌∙◌, subst, arith, eqb-true, eq-eqb}
+use Rattle.std.proofs.Common.{◌≡◌, ℕ, ◌+◌, Bool, true, false, not, cond, List, [], ◌∷◌, ◌++◌, filter, Option, None, set, refl, sym, ap, ◌∙◌, arith}
 use Rattle.std.specs.List.{AllByRecursion}
-use Rattle.std.specs.Prelude.{◌&&◌, ◌||◌, ◌==◌, count_by}
+use Rattle.std.specs.Prelude.{◌&&◌, ◌==◌, count_by}
 use Rattle.std.proofs.lemmas.Bool.{cond_both, cond-true, cond-false, false_from_ne_true, not_from_true, not_from_false}
-use Rattle.std.proofs.lemmas.List.Sums.{sum_by-cons, sum_by-append}
-use Rattle.turn_machine.specs.Relays.{Relay, is_at}
+use Rattle.std.proofs.lemmas.List.Sums.{sum_by-cons}
+use Rattle.turn_machine.specs.Relays.{Relay}
 use Rattle.turn_machine.specs.Lists.{times}
 use Rattle.turn_machine.specs.Times.{numbers}
-use Rattle.turn_relays.specs.Newest.{newest_first}
-use Rattle.turn_relays.specs.Relayed.{number_of}
 use Rattle.turn_relays.specs.Following.{listed, EachOf, ListFollowsSlots}
 use Rattle.turn_relays.specs.Listing.{HasAt, ListHasSlots}
 

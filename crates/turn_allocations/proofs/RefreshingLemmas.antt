@@ -1,24 +1,23 @@
 -- Refresh requests: what ends, and what lasts.
-use Rattle.std.proofs.Common.{◌≡◌, ℕ, ◌+◌, ◌<◌, ◌≤◌, zero, suc, Bool, true, false, not, cond, List, [], ◌∷◌, ◌++◌, map, filter, length, Option, None, Some, get_or, set, refl, sym, ap, ◌∙◌, subst, arith, inl, inr, eqb-true, eq-eqb, ne_eqb}
-use Rattle.std.specs.List.{AllByRecursion}
-use Rattle.std.specs.Option.{option_map, option_map_or}
+use Rattle.std.proofs.Common.{◌≡◌, ℕ, ◌+◌, ◌≤◌, Bool, true, false, not, cond, List, [], ◌∷◌, ◌++◌, length, Option, None, Some, set, refl, sym, ap, ◌∙◌, subst, arith, inl, inr, eqb-true, eq-eqb, ne_eqb}
+use Rattle.std.specs.Option.{option_map_or}
 use Rattle.std.specs.Prelude.{◌⊎◌, ◌&&◌, ◌||◌, ◌==◌, nat_le, MatchOption}
 use Rattle.std.proofs.lemmas.Bool.{cond_both, cond-true, cond-false, and_parts, and_from, or_cases, cases_Bool, false_from_ne_true, le-leb}
 use Rattle.std.proofs.lemmas.List.{set-get_or}
 use Rattle.stun_endpoints.specs.declared.endpoints.FiveTuple.{FiveTuple}
 use Rattle.turn_machine.specs.Relays.{seconds, Relay, Setup, Rules, State, is_of, is_for, is_users, is_owned}
-use Rattle.turn_machine.specs.Events.{refresh, Answer as MachineAnswer, refreshed, refused, done, answers, Output}
+use Rattle.turn_machine.specs.Events.{refresh, Answer as MachineAnswer, refreshed, answers}
 use Rattle.turn_machine.specs.Rows.{has_of_another, has_wanted, own_rows, row}
 use Rattle.turn_machine.specs.Steps.{Step, changed, closing, is_wanted, lasting, keeping, refuses, refreshes, fulfils, serves}
 use Rattle.turn_machine.specs.Times.{refreshed_for}
 use Rattle.turn_machine.specs.Events.{nothing}
 use Rattle.turn_relays.specs.Relayed.{Table, state_of, at_slot, with_slot, Holds}
-use Rattle.turn_relays.specs.Following.{listed, EachOf, ListFollowsSlots}
-use Rattle.turn_relays.specs.Listing.{HasAt, ListHasSlots}
+use Rattle.turn_relays.specs.Following.{listed, ListFollowsSlots}
+use Rattle.turn_relays.specs.Listing.{ListHasSlots}
 use Rattle.turn_relays.specs.Facts.{NumbersAreDistinct}
 use Rattle.turn_allocations.specs.declared.client.Place.{Place}
 use Rattle.turn_allocations.specs.declared.client.Client.{Client}
-use Rattle.turn_allocations.specs.Clients.{lifetime_max, is_sound, AreSound, IsAt, IsFound, in_place, Owns, Becomes}
+use Rattle.turn_allocations.specs.Clients.{lifetime_max, is_sound, AreSound, IsFound, in_place, Owns, Becomes}
 use Rattle.turn_allocations.specs.Ending.{Numbers}
 use Rattle.turn_allocations.specs.Granting.{changed_in}
 use Rattle.turn_allocations.specs.Refreshing.{if_wanted, ends_at, ended_in}
@@ -28,7 +27,6 @@ use Rattle.turn_allocations.specs.declared.answer.Answer.{Answer}
 use Rattle.turn_allocations.proofs.ChangingLemmas.{after_set, set_there, Keeps}
 use Rattle.turn_allocations.proofs.ClientLemmas.{sound_slots}
 use Rattle.turn_allocations.proofs.GrantingLemmas.{are_users, becomes_both, second_stays, changed_in_is, served}
-use Rattle.turn_allocations.proofs.OwnLemmas.{is_family_of}
 use Rattle.turn_allocations.proofs.SweepingLemmas.{Ending, ending_begins, ending_goes_on, ending_ends}
 
 some_same : {X : Type 0} (x y : X) → Some x ≡ Some y → x ≡ y

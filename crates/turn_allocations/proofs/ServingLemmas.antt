@@ -1,21 +1,19 @@
 -- Requests that their bytes make unfit, and what no request but Allocate changes.
-use Rattle.std.proofs.Common.{◌≡◌, ℕ, ◌+◌, ◌≤◌, ◌^◌, Bool, true, false, not, cond, List, [], ◌∷◌, Option, None, Some, refl, sym, ap, ◌∙◌, subst, arith}
-use Rattle.std.specs.Option.{option_map, option_map_or}
+use Rattle.std.proofs.Common.{◌≡◌, ℕ, ◌+◌, ◌≤◌, ◌^◌, List, Option, None, Some, refl, ap, ◌∙◌, arith}
+use Rattle.std.specs.Option.{option_map_or}
 use Rattle.std.specs.Prelude.{◌&&◌, ◌==◌, length, nat_lt}
-use Rattle.std.proofs.lemmas.Bool.{cond_both, cond-true, cond-false}
+use Rattle.std.proofs.lemmas.Bool.{cond_both}
 use Rattle.stun_endpoints.specs.declared.endpoints.Endpoint.{Endpoint}
 use Rattle.stun_endpoints.specs.declared.endpoints.FiveTuple.{FiveTuple}
-use Rattle.turn_machine.specs.Relays.{seconds, Relay, Setup, Rules, State, bound_for, is_owned}
-use Rattle.turn_machine.specs.Events.{Request, unfit_allocate, refresh, permit, permit_request, bind, unfit, refreshed, refused, done, answers, most_peers}
-use Rattle.turn_machine.specs.Rows.{has_any, own_rows, row, fault, has_wanted}
-use Rattle.turn_machine.specs.Steps.{Step, changed, permitting, binding, keeping, closing, is_wanted, lasting, refuses, refreshes, fulfils, serves}
+use Rattle.turn_machine.specs.Relays.{seconds, Setup, Rules, State, is_owned}
+use Rattle.turn_machine.specs.Events.{Request, refresh, permit, permit_request, bind, unfit, refreshed, done, answers, most_peers}
+use Rattle.turn_machine.specs.Rows.{fault}
+use Rattle.turn_machine.specs.Steps.{Step, changed, keeping, closing, is_wanted, lasting, refuses, refreshes, fulfils, serves}
 use Rattle.turn_machine.specs.Times.{refreshed_for}
 use Rattle.turn_relays.specs.Relayed.{Table, state_of}
 use Rattle.turn_allocations.specs.declared.answer.Answer.{Answer}
-use Rattle.turn_allocations.specs.Answers.{answer_of}
 use Rattle.turn_allocations.specs.Ending.{Numbers}
-use Rattle.turn_allocations.specs.Serving.{Serves, or_else}
-use Rattle.turn_allocations.proofs.GrantingLemmas.{served, unchanged}
+use Rattle.turn_allocations.specs.Serving.{Serves}
 
 -- ---- Unfit requests
 

@@ -1,8 +1,8 @@
 -- A call is a step of the machine: a sweep, and what happens then.
-use Rattle.std.proofs.Common.{Option, Some, Bool, true, false, not, ◌∷◌, inl, inr, eq-eqb, ◌≡◌, ℕ, zero, suc, None, replicate, ◌+◌, ◌≤◌, ◌^◌, List, [], ◌++◌, refl, sym, ap, ◌∙◌, subst, arith}
+use Rattle.std.proofs.Common.{Option, Some, Bool, true, false, not, ◌∷◌, inl, inr, eq-eqb, ◌≡◌, ℕ, zero, suc, None, replicate, ◌+◌, ◌≤◌, ◌^◌, List, [], refl, ap, ◌∙◌, arith}
 use Rattle.std.specs.List.{AllByRecursion, list_any}
 use Rattle.std.specs.Option.{IfSome, IfNone}
-use Rattle.std.specs.Prelude.{◌||◌, ◌==◌, nat_le, MatchOption}
+use Rattle.std.specs.Prelude.{◌==◌, nat_le, MatchOption}
 use Rattle.std.proofs.lemmas.Bool.{cases_Bool, or_parts, le-leb, leb-true}
 use Rattle.turn_machine.specs.Relays.{Relay, Setup, Rules, State}
 use Rattle.turn_machine.specs.Events.{Event, Output}

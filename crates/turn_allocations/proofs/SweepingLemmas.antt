@@ -1,8 +1,8 @@
 -- Relayed addresses end one by one, each in its slot.
-use Rattle.std.proofs.Common.{◌≡◌, ℕ, ◌+◌, ◌<◌, ◌≤◌, zero, suc, Bool, true, false, not, cond, List, [], ◌∷◌, ◌++◌, map, filter, length, Option, None, Some, get_or, set, refl, sym, ap, ◌∙◌, subst, arith, eqb-true, eq-eqb, max, zero-le}
+use Rattle.std.proofs.Common.{◌≡◌, ℕ, ◌+◌, ◌<◌, ◌≤◌, suc, Bool, true, false, not, cond, List, [], ◌∷◌, ◌++◌, filter, length, Option, None, Some, get_or, set, refl, sym, ap, ◌∙◌, subst, arith, eqb-true, eq-eqb, max}
 use Rattle.std.specs.List.{AllByRecursion}
-use Rattle.std.specs.Prelude.{◌&&◌, ◌||◌, ◌==◌, nat_le, MatchOption}
-use Rattle.std.proofs.lemmas.Bool.{cond_both, cond-true, cond-false, and_parts, and_from, le-leb, leb-true}
+use Rattle.std.specs.Prelude.{◌||◌, ◌==◌, nat_le, MatchOption}
+use Rattle.std.proofs.lemmas.Bool.{cond_both, and_parts, and_from, le-leb, leb-true}
 use Rattle.std.proofs.lemmas.List.{length-set}
 use Rattle.turn_machine.specs.Relays.{seconds, Relay, State, is_at, is_live}
 use Rattle.turn_machine.specs.Lists.{times}
@@ -11,12 +11,12 @@ use Rattle.turn_machine.specs.Events.{nothing}
 use Rattle.turn_machine.specs.Steps.{closing}
 use Rattle.turn_relays.specs.Relayed.{Table, state_of, with_slot, Holds}
 use Rattle.turn_relays.specs.Following.{listed, EachOf, ListFollowsSlots}
-use Rattle.turn_relays.specs.Listing.{HasAt, ListHasSlots}
+use Rattle.turn_relays.specs.Listing.{ListHasSlots}
 use Rattle.turn_relays.specs.Facts.{NumbersAreDistinct}
 use Rattle.turn_allocations.specs.Clients.{lifetime_max, is_sound, AreSound, Becomes}
-use Rattle.turn_allocations.specs.Ending.{Numbers, AreSame}
-use Rattle.turn_allocations.specs.Serving.{Appends, IsDone, IsOnly}
-use Rattle.turn_allocations.proofs.EndingLemmas.{times_append, Among, left_of, EndsSome, ends_some, none_ends, EndsOne, ends_one}
+use Rattle.turn_allocations.specs.Ending.{Numbers}
+use Rattle.turn_allocations.specs.Serving.{Appends, IsDone}
+use Rattle.turn_allocations.proofs.EndingLemmas.{times_append, Among, left_of, ends_some, none_ends, EndsOne, ends_one}
 
 -- ---- One
 

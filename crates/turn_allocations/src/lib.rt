@@ -15,6 +15,7 @@ mod answer;
 mod binding;
 mod client;
 mod ended;
+mod events;
 mod families;
 mod laws;
 mod limits;

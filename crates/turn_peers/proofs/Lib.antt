@@ -1,2 +1,3 @@
 mod LongestLemmas
+mod OctetLemmas
 mod PortsLemmas

@@ -1,6 +1,6 @@
 -- Ports of addresses.
-use Rattle.std.proofs.Common.{◌≡◌, ℕ, ◌+◌, ◌<◌, Bool, true, false, List, [], ◌∷◌, refl, sym, ◌∙◌, ap, arith}
-use Rattle.std.specs.Prelude.{◌&&◌, ◌||◌, not, nat_le, ◌==◌, Option, Some, None}
+use Rattle.std.proofs.Common.{◌≡◌, ℕ, ◌+◌, ◌<◌, Bool, true, false, List, [], ◌∷◌, refl, ◌∙◌, ap, arith}
+use Rattle.std.specs.Prelude.{◌&&◌, ◌||◌, not, nat_le, Some, None}
 use Rattle.std.specs.List.{list_all}
 use Rattle.std.proofs.lemmas.Bool.Decides.{nat_tests}
 use Rattle.stun_endpoints.specs.declared.endpoints.Ip.{Ip}
@@ -12,7 +12,7 @@ use Rattle.turn_peers.specs.Peers.{is_allowed_by, is_open, allows_peer, allows_a
 
 -- ---- What is allowed of a port is allowed of the address
 
-second : (one two : Bool) → (one && two) ≡ true → two ≡ true
+pub second : (one two : Bool) → (one && two) ≡ true → two ≡ true
 second true two is = is
 second false two is = absurd cc
 
@@ -99,7 +99,7 @@ has_one false inside is = absurd cc
 same_allowed : (ip : Ip) (port : ℕ) (r : PeerRange) → port < 65536 → has_all_ports r ≡ true → allows ip (Some port) r ≡ allows ip None r
 same_allowed ip port r less all = has_one (has_port port r) (contains ip r.prefix) (has_port_all port r less all)
 
-first_of : (one two : Bool) → (one && two) ≡ true → one ≡ true
+pub first_of : (one two : Bool) → (one && two) ≡ true → one ≡ true
 first_of true two is = refl
 first_of false two is = absurd cc
 

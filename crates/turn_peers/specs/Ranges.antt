@@ -1,9 +1,9 @@
 -- Ranges of peers: a prefix of IP addresses, and ports.
-use Rattle.std.specs.Prelude.{ℕ, Bool, ◌&&◌, ◌==◌, nat_le, Option, Some, None}
+use Rattle.std.specs.Prelude.{ℕ, ◌-◌, ◌/◌, ◌^◌, Bool, ◌&&◌, ◌==◌, nat_le, min, Option, Some, None}
 use Rattle.stun_endpoints.specs.declared.endpoints.Ip.{Ip}
 use Rattle.turn_peers.specs.declared.networks.Prefix.{Prefix}
 use Rattle.turn_peers.specs.declared.ranges.PeerRange.{PeerRange}
-use Rattle.turn_peers.specs.Networks.{contains}
+use Rattle.turn_peers.specs.Networks.{contains, first_bits}
 
 -- every port of the addresses of a prefix
 abbrev pub all_ports : Prefix → PeerRange
@@ -24,3 +24,13 @@ denies ip None r = has_all_ports r && contains ip r.prefix
 abbrev pub allows : Ip → Option ℕ → PeerRange → Bool
 allows ip (Some port) r = has_port port r && contains ip r.prefix
 allows ip None r = contains ip r.prefix
+
+abbrev pub has_ip : Ip → PeerRange → Bool
+has_ip ip r = contains ip r.prefix
+
+-- whether some addresses of a family with a first octet are in a range: it is that of the prefix, as far as the
+-- prefix goes
+abbrev pub has_octet : (family octet : ℕ) → PeerRange → Bool
+has_octet family octet r =
+    let known = min 8 r.prefix.length in
+    (r.prefix.network.family == family) && (octet / 2 ^ (8 - known) == first_bits known r.prefix.network)

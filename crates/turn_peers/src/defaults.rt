@@ -1,5 +1,10 @@
 //! The prefixes that a TURN server denies unless its caller allows them.
 
+ghost use Rattle.std.specs.Prelude.{◌≡◌, filter};
+ghost use Rattle.turn_peers.specs.declared.defaults.TheConstants.{DENIED_BY_DEFAULT as denied_by_default};
+ghost use Rattle.turn_peers.specs.Networks.{first_bits};
+ghost use Rattle.turn_peers.specs.Ranges.{has_ip, has_octet};
+
 use crate::networks::Prefix;
 use crate::ranges::PeerRange;
 use stun_endpoints::Ip;
@@ -93,3 +98,48 @@ pub const DENIED_BY_DEFAULT: [PeerRange; 25] = [
     // ff00::/8, multicast (RFC 4291, section 2.7)
     v6!(0xFF00_0000_0000_0000_0000_0000_0000_0000 / 8),
 ];
+
+/// Of [`DENIED_BY_DEFAULT`] the prefixes of IPv4 addresses with this first octet.
+fn with_ipv4_octet(octet: u8) -> &'static [PeerRange]
+    ensures { filter (has_octet 1 octet) result.now ≡ filter (has_octet 1 octet) denied_by_default }
+{
+    match octet {
+        0 => &DENIED_BY_DEFAULT[..1],
+        10 => &DENIED_BY_DEFAULT[1..2],
+        100 => &DENIED_BY_DEFAULT[2..3],
+        127 => &DENIED_BY_DEFAULT[3..4],
+        169 => &DENIED_BY_DEFAULT[4..5],
+        172 => &DENIED_BY_DEFAULT[5..6],
+        192 => &DENIED_BY_DEFAULT[6..9],
+        198 => &DENIED_BY_DEFAULT[9..10],
+        224..=239 => &DENIED_BY_DEFAULT[10..11],
+        240..=255 => &DENIED_BY_DEFAULT[11..12],
+        _ => &[],
+    }
+}
+
+/// Of [`DENIED_BY_DEFAULT`] the prefixes of IPv6 addresses with this first octet.
+fn with_ipv6_octet(octet: u8) -> &'static [PeerRange]
+    ensures { filter (has_octet 2 octet) result.now ≡ filter (has_octet 2 octet) denied_by_default }
+{
+    match octet {
+        0x00 => &DENIED_BY_DEFAULT[12..17],
+        0x20 => &DENIED_BY_DEFAULT[17..20],
+        0x5F => &DENIED_BY_DEFAULT[20..21],
+        0xFC..=0xFD => &DENIED_BY_DEFAULT[21..22],
+        0xFE => &DENIED_BY_DEFAULT[22..24],
+        0xFF => &DENIED_BY_DEFAULT[24..],
+        _ => &[],
+    }
+}
+
+/// Of [`DENIED_BY_DEFAULT`] the prefixes of addresses with the first octet of this one: no other one contains it.
+pub(crate) fn with_octet_of(ip: Ip) -> &'static [PeerRange]
+    ensures { filter (has_ip ip) result.now ≡ filter (has_ip ip) denied_by_default }
+{
+    match ip.family {
+        1 if ip.number < 1 << 32 => with_ipv4_octet((ip.number >> 24) as u8),
+        2 => with_ipv6_octet((ip.number >> 120) as u8),
+        _ => &[],
+    }
+}

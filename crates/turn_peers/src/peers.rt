@@ -1,6 +1,6 @@
 //! What a server relays to by its caller's prefixes.
 
-use crate::defaults::DENIED_BY_DEFAULT;
+use crate::defaults::with_octet_of;
 use crate::policy::PeerPolicy;
 use crate::ranges::PeerRange;
 use std::net::{IpAddr, SocketAddr};
@@ -58,8 +58,9 @@ impl Peers<'_> {
     /// Whether the server relays to this peer: the ranges allow its IP address and port, and the server doesn't
     /// listen there. Flow information and scope ID don't count.
     ///
-    /// It looks at each range and each address once, or twice if some range hasn't all ports, and again at
-    /// `allowed` for a range that denies the peer; it takes no memory.
+    /// It looks once at each address, and at each range, of [`DENIED_BY_DEFAULT`] those with the first octet of
+    /// the peer's address; twice if some range hasn't all ports; and again at `allowed` for a range that denies
+    /// the peer. It takes no memory.
     ///
     /// # Examples
     ///
@@ -103,7 +104,7 @@ impl Peers<'_> {
         ensures { result ≡ allows_peer self.now.denied.now self.now.allowed.now ip port }
     {
         is_open(self.denied, self.allowed, 1, ip, port)
-            && is_open(&DENIED_BY_DEFAULT, self.allowed, 0, ip, port)
+            && is_open_by_default(self.allowed, ip, port)
     }
 
     /// Whether each range has all ports.
@@ -165,6 +166,7 @@ impl PeerPolicy for Peers<'_> {
 
 ghost use Rattle.std.specs.Prelude.{◌≡◌};
 ghost use Rattle.std.specs.List.{list_all};
+ghost use Rattle.turn_peers.specs.declared.defaults.TheConstants.{DENIED_BY_DEFAULT as denied_by_default};
 ghost use Rattle.turn_peers.specs.Peers.{is_allowed_by, is_open};
 ghost use Rattle.turn_peers.specs.Ranges.{has_all_ports};
 
@@ -196,4 +198,12 @@ fn is_open(denied: &[PeerRange], allowed: &[PeerRange], more: u8, ip: Ip, port: 
                 port,
             )
     })
+}
+
+/// Whether for each of [`DENIED_BY_DEFAULT`](crate::DENIED_BY_DEFAULT) that denies a peer there is one of `allowed`
+/// that allows it, and whose prefix is as long.
+fn is_open_by_default(allowed: &[PeerRange], ip: Ip, port: Option<u16>) -> bool
+    ensures { result ≡ is_open denied_by_default allowed.now 0 ip port }
+{
+    is_open(with_octet_of(ip), allowed, 0, ip, port)
 }

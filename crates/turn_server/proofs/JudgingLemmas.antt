@@ -14,7 +14,8 @@ use Rattle.stun_base.specs.declared.message_class.MessageClass.TheVariants.{Requ
 use Rattle.stun_base.specs.MessageTypes.{class_of, method_of}
 use Rattle.stun_authentication.specs.Answers.{Decision, accept, refuse, discard, not_a_request}
 use Rattle.stun_authentication.specs.Identities.{Who}
-use Rattle.stun_authentication.specs.Lookups.{UserKey}
+use Rattle.stun_authentication.specs.declared.policy.Policy.{Policy}
+use Rattle.stun_authentication.specs.Lookups.{Known, UserKey}
 use Rattle.turn_attrs.specs.Channels.{channel_field}
 use Rattle.stun_endpoints.specs.declared.endpoints.FiveTuple.{FiveTuple}
 use Rattle.turn_machine.specs.Relays.{Setup}
@@ -27,7 +28,7 @@ use Rattle.turn_attrs.specs.ChannelMessages.{data_in}
 use Rattle.turn_server.specs.ChannelMessages.{range_to}
 use Rattle.turn_server.specs.Comprehended.{is_comprehended}
 use Rattle.turn_server.specs.Indications.{sent_by, keeps_whole}
-use Rattle.turn_server.specs.Judging.{Site, Judged, dropped, binding, refused, unknown, sent, sent_on, asked, event_of, SEND, channel_message, indicated, accepted_as, decided_as, requested, by_class, message, judge}
+use Rattle.turn_server.specs.Judging.{Site, Judged, dropped, binding, refused, unknown, sent, sent_on, asked, event_of, SEND, channel_message, indicated, accepted_as, decided_as, requested, by_class, message, judge, message_needs_key, needs_key}
 use Rattle.turn_server.specs.Judgments.{IsOfClass, IsDecided, IsAsked, IsSo, Asks, credentials}
 use Rattle.turn_server.specs.Requests.{asks_table}
 
@@ -148,6 +149,15 @@ judge_channel last_channel sets_df site (x ∷ d) first at begins =
     let same : x ≡ first = cc in
     let begins_it : begins_number (range_to last_channel) x ≡ true = ap (begins_number (range_to last_channel)) same ∙ begins in
     rw begins_it refl
+
+-- what doesn't begin as a ChannelData message needs a key if it does as a message
+pub needs_as_message : (last_channel : ℕ) (policy : Policy) (nonces : List ℕ → Known) (d : List ℕ) (first : ℕ) (needs : Bool) → slice_get d 0 ≡ Some first → begins_number (range_to last_channel) first ≡ false
+    → needs ≡ message_needs_key policy nonces d → needs ≡ needs_key last_channel policy nonces d
+needs_as_message last_channel policy nonces [] first needs at begins is = absurd cc
+needs_as_message last_channel policy nonces (x ∷ d) first needs at begins is =
+    let same : x ≡ first = cc in
+    let begins_it : begins_number (range_to last_channel) x ≡ false = ap (begins_number (range_to last_channel)) same ∙ begins in
+    rw begins_it is
 
 pub first_true : (a b : Bool) → (a && b) ≡ true → a ≡ true
 first_true true b e = refl

@@ -47,7 +47,7 @@ const OFFERED: [PasswordAlgorithmValue; 2] = [
 impl Access {
     ghost use Rattle.std.specs.Prelude.{◌≡◌, ◌≤◌, length};
     ghost use Rattle.stun_authentication.specs.Nonces.{minting_of, state_of};
-    ghost use Rattle.turn_server.specs.Access.{offered, nonces_of};
+    ghost use Rattle.turn_server.specs.Access.{offered, nonces_at};
 
     /// The password algorithms that are sent with each nonce.
     pub(crate) fn algorithms(&self) -> &[PasswordAlgorithmValue]
@@ -62,9 +62,10 @@ impl Access {
     }
 
     /// The nonces of a client, at a time in nanoseconds.
-    pub(crate) fn nonces_of(&self, now: u64, client: SocketAddr) -> NoncesOf<'_>
-        ensures { state_of result ≡ nonces_of (minting_of self.now.nonces) now client }
+    pub(crate) fn nonces_of(&self, now: u64, client: Endpoint) -> NoncesOf<'_>
+        ensures { state_of result ≡ nonces_at client now self.now }
     {
+        let client = SocketAddr::from(client);
         self.nonces.nonces(seconds(now), client, self.algorithms())
     }
 }

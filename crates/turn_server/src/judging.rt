@@ -12,6 +12,7 @@ ghost use Rattle.stun_values.specs.declared.algorithm.PasswordAlgorithmValue.{Pa
 ghost use Rattle.stun_types.specs.Message.{message_bytes};
 ghost use Rattle.stun_authentication.specs.Answers.{Decision, Tells as Decides};
 ghost use Rattle.stun_authentication.specs.Identities.{Who, who};
+ghost use Rattle.stun_authentication.specs.LongTerm.{needs_key as needs_key_by};
 ghost use Rattle.stun_authentication.specs.Lookups.{Known, UserKey};
 ghost use Rattle.stun_framing.specs.Channels.{begins_number};
 ghost use Rattle.turn_server.specs.ChannelMessages.{last_channel, range_to};
@@ -29,10 +30,8 @@ use crate::judged::{Asking, Judged};
 use crate::request::asks_table;
 use crate::{Access, Site, Span};
 use std::alloc::{AllocError, Global};
-use std::net::SocketAddr;
 use stun_authentication::{
-    Accepted, Authentication, LongTermKeys, Nonces, Policy, authenticate_long_term,
-    needs_key as needs_key_by,
+    Accepted, Authentication, LongTermKeys, authenticate_long_term, needs_key as needs_key_by,
 };
 use stun_endpoints::Endpoint;
 use stun_types::message::{BINDING, Message, MessageClass, MessageHeader, Method};
@@ -159,7 +158,7 @@ fn judge_request<'d, K: LongTermKeys>(
         return Ok(Judged::Dropped);
     }
     let access = site.access;
-    let nonces = access.nonces_of(now, SocketAddr::from(client));
+    let nonces = access.nonces_of(now, client);
     let authentication = authenticate_long_term(
         alloc,
         request,
@@ -200,16 +199,14 @@ fn judge_message<'d, K: LongTermKeys>(
     }
 }
 
-/// Whether it depends on the key of its user what comes of a request of this method.
-fn request_needs_key<N: Nonces>(datagram: &[u8], method: Method, policy: Policy, nonces: &N) -> bool
+/// Whether it depends on the key of its user what comes of a request for the allocations.
+fn request_needs_key(now: u64, client: Endpoint, datagram: &[u8], access: &Access) -> bool
     ensures { result ≡ (not (is_some (parse_fault datagram.now))
-        && request_needs_key policy (N.state_of nonces.now) method datagram.now) }
+        && needs_key_by access.now.policy (nonces_at client now access.now) datagram.now) }
 {
-    if !asks_table(method) {
-        return false;
-    }
+    let nonces = access.nonces_of(now, client);
     match Message::from_bytes(datagram) {
-        Ok(message) => needs_key_by(&message, policy, nonces),
+        Ok(message) => needs_key_by(&message, access.policy, &nonces),
         Err(_) => false,
     }
 }
@@ -217,15 +214,18 @@ fn request_needs_key<N: Nonces>(datagram: &[u8], method: Method, policy: Policy,
 /// Whether it depends on the key of its user what comes of a message. It reads no more than the header of
 /// what is no request to the table.
 #[tactic(auto, using(crate::proofs::JudgingLemmas::no_header))]
-fn message_needs_key<N: Nonces>(datagram: &[u8], policy: Policy, nonces: &N) -> bool
-    ensures { result ≡ message_needs_key policy (N.state_of nonces.now) datagram.now }
+fn message_needs_key(now: u64, client: Endpoint, datagram: &[u8], access: &Access) -> bool
+    ensures { result
+        ≡ message_needs_key access.now.policy (nonces_at client now access.now) datagram.now }
 {
     let Ok(header) = MessageHeader::from_bytes(datagram) else {
         return false;
     };
     let mtype = header.get_type();
     match mtype.class() {
-        MessageClass::Request => request_needs_key(datagram, mtype.method(), policy, nonces),
+        MessageClass::Request => {
+            asks_table(mtype.method()) && request_needs_key(now, client, datagram, access)
+        }
         MessageClass::Indication | MessageClass::Success | MessageClass::Error => false,
     }
 }
@@ -233,19 +233,21 @@ fn message_needs_key<N: Nonces>(datagram: &[u8], policy: Policy, nonces: &N) -> 
 /// Returns whether it depends on the key of its user what comes of a datagram, as [`judge`] says: it is
 /// a request for the allocations, and its long-term credentials are looked at
 /// (`stun_authentication::needs_key`). It reads no more than the header of anything else.
-pub(crate) fn needs_key<N: Nonces>(
+#[tactic(auto, using(crate::proofs::JudgingLemmas::needs_as_message))]
+pub(crate) fn needs_key(
+    now: u64,
+    client: Endpoint,
     datagram: &[u8],
     old_channels: bool,
-    policy: Policy,
-    nonces: &N,
+    access: &Access,
 ) -> bool
-    ensures { result
-        ≡ needs_key (last_channel old_channels) policy (N.state_of nonces.now) datagram.now }
+    ensures { result ≡ needs_key (last_channel old_channels) access.now.policy
+        (nonces_at client now access.now) datagram.now }
 {
     let Some(first) = datagram.first() else {
         return false;
     };
-    !range_of(old_channels).begins_with(*first) && message_needs_key(datagram, policy, nonces)
+    !range_of(old_channels).begins_with(*first) && message_needs_key(now, client, datagram, access)
 }
 
 /// Judges a client's datagram: drops it, finds its data, or authenticates its request, as

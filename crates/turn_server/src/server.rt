@@ -20,7 +20,6 @@ use crate::Access;
 use crate::judging::needs_key;
 use std::alloc::{AllocError, Global};
 use std::marker::Model;
-use std::net::SocketAddr;
 use stun_endpoints::{Endpoint, FiveTuple};
 use turn_allocations::{Flow, Iter, Limits};
 use turn_reservations::ReservingAllocations;
@@ -275,8 +274,7 @@ impl<const P: usize, const C: usize> TurnServer<P, C> {
             access.now.policy (nonces_at client now access.now) datagram.now }
     {
         let old_channels = self.allocations.limits().old_channels;
-        let nonces = access.nonces_of(now, SocketAddr::from(client));
-        needs_key(datagram, old_channels, access.policy, &nonces)
+        needs_key(now, client, datagram, old_channels, access)
     }
 
     /// Returns the flow on a channel of a client: the socket and the peer between which, until it expires, a

@@ -8,11 +8,14 @@
 #![tactic(auto)]
 
 mod deadlines;
+mod ending;
+mod finding;
 mod groups;
 mod hashing;
 mod iter;
 mod keys;
 mod laws;
+mod opening;
 mod relay_key;
 mod slots;
 mod users;

@@ -9,8 +9,8 @@ use Rattle.stun_types.specs.Message.{message_bytes}
 use Rattle.stun_authentication.specs.Answers.{Tells as Decides}
 use Rattle.stun_authentication.specs.LongTerm.{long_term, needs_key}
 use Rattle.stun_authentication.specs.Lookups.{Known}
-use Rattle.stun_authentication.specs.Nonces.{minting_of, state_of}
-use Rattle.turn_server.specs.Access.{nonces_of, nonces_at}
+use Rattle.stun_authentication.specs.Nonces.{state_of}
+use Rattle.turn_server.specs.Access.{nonces_at}
 use Rattle.turn_server.specs.Judging.{Judged}
 use Rattle.turn_server.specs.Judgments.{credentials}
 use Rattle.turn_server.specs.Reporting.{Tells}
@@ -24,8 +24,7 @@ returns-in_err-authentication-clause-memory g c e =
     let access = c.args.site.now.access.now in
     let d = message_bytes c.args.request.now in
     let asks : asks_table (method_of (type_field d)) ≡ true = search rules in
-    let nonces_are : state_of c.nonces_of-nonces.result ≡ nonces_at c.args.client c.args.now access =
-    c.nonces_of-nonces.ensures ∙ ap (nonces_of (minting_of access.nonces) c.args.now) c.from.ensures in
+    let nonces_are : state_of c.nonces_of-nonces.result ≡ nonces_at c.args.client c.args.now access = c.nonces_of-nonces.ensures in
     absurd (false≢true (c.in_err-authentication.ensures.memory
     (ap (λ (n : List ℕ → Known). needs_key access.policy n d) nonces_are ∙ second_false (asks_table (method_of (type_field d))) (needs_key access.policy (nonces_at c.args.client c.args.now access) d) asks e)))
 
@@ -37,8 +36,7 @@ returns-clause-judged g c =
     let site = site_of access c.args.site.now.sockets keys c.args.client c.args.now in
     let other : (method_of (type_field d) == BINDING) ≡ false = search rules in
     let asks : asks_table (method_of (type_field d)) ≡ true = search rules in
-    let nonces_are : state_of c.nonces_of-nonces.result ≡ nonces_at c.args.client c.args.now access =
-    c.nonces_of-nonces.ensures ∙ ap (nonces_of (minting_of access.nonces) c.args.now) c.from.ensures in
+    let nonces_are : state_of c.nonces_of-nonces.result ≡ nonces_at c.args.client c.args.now access = c.nonces_of-nonces.ensures in
     let realm_is : c.realm.result.now ≡ text_bytes access.realm = c.realm.ensures in
     let decides : Decides (credentials site d) c.in_ok-authentication.authentication =
     subst (λ (n : List ℕ → Known). Decides (long_term access.policy (text_bytes access.realm) n keys d) c.in_ok-authentication.authentication) nonces_are

@@ -1,14 +1,8 @@
-use Rattle.std.proofs.Common.{◌≡◌, ℕ, List, refl, sym, ap, ◌∙◌, subst}
-use Rattle.turn_slots.specs.Users.{user_number}
-use Rattle.turn_machine.specs.Relays.{State, is_at, is_users}
-use Rattle.turn_machine.specs.Events.{asks, sends, sends_on, arrives, bounces, ends, ends_user, ticks, answers, nothing}
+use Rattle.std.proofs.Common.{refl, sym, subst}
+use Rattle.turn_machine.specs.Events.{sends}
 use Rattle.turn_machine.specs.Data.{relayed}
-use Rattle.turn_machine.specs.Steps.{keeping, closing}
-use Rattle.turn_machine.specs.Times.{at}
 use Rattle.turn_relays.specs.Relayed.{state_of}
-use Rattle.turn_allocations.specs.Answers.{answer_of}
-use Rattle.turn_allocations.specs.Outputs.{sending, receiving, bouncing}
-use Rattle.turn_allocations.specs.Requests.{asked}
+use Rattle.turn_allocations.specs.Outputs.{sending}
 use Rattle.turn_allocations.specs.Setups.{rules_of, setup_of}
 use Rattle.turn_allocations.specs.Tables.{Serving, IsStep}
 use Rattle.turn_allocations.proofs.SteppingLemmas.{quiet, calm, stepped}

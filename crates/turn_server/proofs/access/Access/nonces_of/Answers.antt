@@ -6,4 +6,4 @@ use Rattle.turn_server.proofs.access.Access.nonces_of.Goals as goal
 pub returns : goal.returns
 returns c =
     c.nonces.ensures ∙ (λ i nonce. known_as (c.algorithms.ensures.algorithms i)
-    (freshness (minting_of c.args.self.now.nonces) (c.seconds.ensures i) (address_value c.args.client) nonce))
+    (freshness (minting_of c.args.self.now.nonces) (c.seconds.ensures i) (address_value (c.from-client.ensures i)) nonce))
