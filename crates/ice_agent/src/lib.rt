@@ -16,6 +16,7 @@
 mod agent;
 mod credentials;
 mod laws;
+mod lite;
 mod receiving;
 mod restarting;
 mod sending;
@@ -25,7 +26,9 @@ pub use agent::Agent;
 pub use credentials::AgentCredentials;
 pub use ice_agent_state::{AddError, Change, Route, Settings, Status};
 pub use ice_machine::{Base, Pair, Remote, Role};
-pub use laws::datagrams_are_warranted;
+pub use ice_lite::LiteBase;
+pub use laws::{datagrams_are_warranted, lite_datagrams_are_warranted};
+pub use lite::LiteAgent;
 pub use receiving::Received;
 pub use restarting::Session;
 pub use sending::Sending;
