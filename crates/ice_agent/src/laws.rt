@@ -9,7 +9,7 @@ ghost use Rattle.ice_agent_state.specs.Agents.{output_at};
 ghost use Rattle.stun_grammar.specs.Numbers.{IsBytes};
 ghost use Rattle.stun_endpoints.specs.declared.endpoints.Endpoint.{Endpoint};
 ghost use Rattle.ice_machine.specs.Events.{sends};
-ghost use Rattle.ice_lite.specs.Agents.{LiteBase};
+ghost use Rattle.ice_lite.specs.declared.candidates.LiteBase.{LiteBase};
 ghost use Rattle.ice_lite.specs.Past.{sent_by_past};
 ghost use Rattle.ice_lite.specs.Runs as machine;
 ghost use Rattle.ice_lite.specs.Steps as steps;

@@ -92,11 +92,7 @@ impl LiteAgent {
     /// # Errors
     ///
     /// Only if an allocation of memory failed.
-    pub fn new(
-        alloc: Global,
-        own: AgentCredentials,
-        bases: &[LiteBase],
-    ) -> Result<Self, AllocError>
+    pub fn new(alloc: Global, own: AgentCredentials, bases: &[LiteBase]) -> Result<Self, AllocError>
         ensures { IfOk result (λ agent. agent ≡ lite.begun own bases.now) }
     {
         let state = LiteState::new(alloc, bases)?;
@@ -156,10 +152,7 @@ impl LiteAgent {
             (output_at now (strays base from id (length datagram.now) code) self.old)
             out.old out.new result }
     {
-        match self
-            .state
-            .refuse(now, datagram.len(), Some(refusal.code()))
-        {
+        match self.state.refuse(now, datagram.len(), Some(refusal.code())) {
             Some(_) => self
                 .own
                 .reply(alloc, id, &refusal.response(datagram), signed_by, out),
@@ -246,7 +239,12 @@ impl LiteAgent {
             Judged::Checks { check, algorithm } => {
                 self.take_check(alloc, now, check, *algorithm, out)
             }
-            Judged::Strays { .. } | Judged::Responds { .. } => {
+            Judged::Strays { .. } => {
+                self.stray(now, datagram.len());
+                Ok(Received::Nothing)
+            }
+            // (no response is waited for)
+            Judged::Responds { .. } => {
                 self.stray(now, datagram.len());
                 Ok(Received::Nothing)
             }

@@ -23,10 +23,10 @@ use Rattle.ice_lite.specs.Past.{Heard, heard_if, is_accepted, is_nomination, is_
 find_map : {X Y : Type 0} (test : Y → Bool) (f : X → Y) (xs : List X) → find test (map f xs) ≡ option_map f (find (λ x. test (f x)) xs)
 find_map test f [] = refl
 find_map test f (x ∷ xs) = by (test (f x)) (find_map test f xs) where
-    by : (t : Bool) → find test (map f xs) ≡ option_map f (find (λ x. test (f x)) xs)
-        → (if t then Some (f x) else find test (map f xs)) ≡ option_map f (if t then Some x else find (λ x. test (f x)) xs)
-    by true rest = refl
-    by false rest = rest
+  by : (t : Bool) → find test (map f xs) ≡ option_map f (find (λ x. test (f x)) xs)
+      → (if t then Some (f x) else find test (map f xs)) ≡ option_map f (if t then Some x else find (λ x. test (f x)) xs)
+  by true rest = refl
+  by false rest = rest
 
 map_alike : {X Y : Type 0} (f g : X → Y) (xs : List X) → ((x : X) → f x ≡ g x) → map f xs ≡ map g xs
 map_alike f g [] same = refl
@@ -43,9 +43,9 @@ then_alike f g (Some x) same = same x
 found_passes : {X : Type 0} (test : X → Bool) (xs : List X) (x : X) → find test xs ≡ Some x → test x ≡ true
 found_passes test [] x is = absurd cc
 found_passes test (y ∷ ys) x is = by (test y) refl is (found_passes test ys x) where
-    by : (t : Bool) → test y ≡ t → (if t then Some y else find test ys) ≡ Some x → (find test ys ≡ Some x → test x ≡ true) → test x ≡ true
-    by true passes same rest = let it : y ≡ x = cc in ap test (sym it) ∙ passes
-    by false fails same rest = rest same
+  by : (t : Bool) → test y ≡ t → (if t then Some y else find test ys) ≡ Some x → (find test ys ≡ Some x → test x ≡ true) → test x ≡ true
+  by true passes same rest = let it : y ≡ x = cc in ap test (sym it) ∙ passes
+  by false fails same rest = rest same
 
 none_passes : {X : Type 0} (test : X → Bool) (xs : List X) → ((x : X) → test x ≡ false) → find test xs ≡ None
 none_passes test [] fails = refl
@@ -87,9 +87,9 @@ heard_passes test moment (arrives base from bytes) rest n before is = before is
 heard_passes test moment (sends component bytes) rest n before is = before is
 heard_passes test moment polls rest n before is = before is
 heard_passes test moment (checks c) rest n before is = by (test c) refl is where
-    by : (t : Bool) → test c ≡ t → option_or (if t then Some (record { check = c; moment = moment }) else None) rest ≡ Some n → test n.check ≡ true
-    by true passes same = let it : record { check = c; moment = moment } ≡ n = cc in ap (λ (h : Heard). test h.check) (sym it) ∙ passes
-    by false fails same = before same
+  by : (t : Bool) → test c ≡ t → option_or (if t then Some (record { check = c; moment = moment }) else None) rest ≡ Some n → test n.check ≡ true
+  by true passes same = let it : record { check = c; moment = moment } ≡ n = cc in ap (λ (h : Heard). test h.check) (sym it) ∙ passes
+  by false fails same = before same
 
 latest_passes : (test : Check → Bool) (hs : List Happening) (n : Heard) → latest test hs ≡ Some n → test n.check ≡ true
 latest_passes test [] n is = absurd cc
@@ -120,10 +120,10 @@ unaccepted : (bases : List LiteBase) (hs : List Happening) (moment : ℕ) (c : C
 unaccepted bases hs moment c out b refused =
     let hs' = heard_now moment c out hs in
     let renews : (n : Heard) → renewal bases b.component hs n ≡ renewal bases b.component hs' n =
-        λ n. ap (λ (o : Option Heard). option_map_or (λ last. last.moment) o n.moment)
-        (sym (is_earlier (is_on bases b.component n.check) moment out hs c (ap (λ (t : Bool). t && ((n.check.base == c.base) && is_endpoint c.from n.check.from)) refused))) in
+    λ n. ap (λ (o : Option Heard). option_map_or (λ last. last.moment) o n.moment)
+    (sym (is_earlier (is_on bases b.component n.check) moment out hs c (ap (λ (t : Bool). t && ((n.check.base == c.base) && is_endpoint c.from n.check.from)) refused))) in
     let alike : (n : Heard) → pair_at bases hs b n ≡ pair_at bases hs' b n =
-        λ n. ap (λ (m : ℕ). if is_base n.check.base b then Some (record { remote = n.check.from; heard_at = m }) else None) (renews n) in
+    λ n. ap (λ (m : ℕ). if is_base n.check.base b then Some (record { remote = n.check.from; heard_at = m }) else None) (renews n) in
     ap (with_pair b) (then_alike (pair_at bases hs b) (pair_at bases hs' b) (latest (is_nomination bases b.component) hs) alike
     ∙ ap (option_and_then (pair_at bases hs' b)) (sym (is_earlier (is_nomination bases b.component) moment out hs c (ap (λ (t : Bool). t && c.nominates) refused))))
 
@@ -133,12 +133,12 @@ selects : (bases : List LiteBase) (hs : List Happening) (moment : ℕ) (c : Chec
 selects bases hs moment c out b accepted names =
     let hs' = heard_now moment c out hs in
     let here : latest (is_nomination bases b.component) hs' ≡ Some (record { check = c; moment = moment }) =
-        is_latest (is_nomination bases b.component) moment out hs c (and_from (is_accepted bases b.component c) c.nominates accepted names) in
+    is_latest (is_nomination bases b.component) moment out hs c (and_from (is_accepted bases b.component c) c.nominates accepted names) in
     let itself : is_on bases b.component c c ≡ true =
-        and_from (is_accepted bases b.component c) ((c.base == c.base) && is_endpoint c.from c.from) accepted
-        (and_from (c.base == c.base) (is_endpoint c.from c.from) (eq-eqb c.base c.base refl) (endpoint_is_itself c.from)) in
+    and_from (is_accepted bases b.component c) ((c.base == c.base) && is_endpoint c.from c.from) accepted
+    (and_from (c.base == c.base) (is_endpoint c.from c.from) (eq-eqb c.base c.base refl) (endpoint_is_itself c.from)) in
     let now : renewal bases b.component hs' (record { check = c; moment = moment }) ≡ moment =
-        ap (λ (o : Option Heard). option_map_or (λ last. last.moment) o moment) (is_latest (is_on bases b.component c) moment out hs c itself) in
+    ap (λ (o : Option Heard). option_map_or (λ last. last.moment) o moment) (is_latest (is_on bases b.component c) moment out hs c itself) in
     ap (with_pair b) (sym (ap (option_and_then (pair_at bases hs' b)) here
     ∙ ap (λ (m : ℕ). if is_base c.base b then Some (record { remote = c.from; heard_at = m }) else None) now))
 
@@ -165,21 +165,21 @@ renews_on : (bases : List LiteBase) (hs : List Happening) (moment : ℕ) (c : Ch
 renews_on bases hs moment c out b n false from accepted number other same =
     let on = is_on bases b.component n.check in
     let off : on c ≡ false = ap (λ (t : Bool). t && ((n.check.base == c.base) && is_endpoint c.from n.check.from)) accepted
-        ∙ ap (λ (t : Bool). t && is_endpoint c.from n.check.from) (ap (λ (x : ℕ). x == c.base) (sym number) ∙ other) in
+    ∙ ap (λ (t : Bool). t && is_endpoint c.from n.check.from) (ap (λ (x : ℕ). x == c.base) (sym number) ∙ other) in
     elsewhere moment c b (record { remote = n.check.from; heard_at = renewal bases b.component hs n }) other
     ∙ pair_of b n.check.from (renewal bases b.component hs n) (renewal bases b.component (heard_now moment c out hs) n)
     (ap (λ (o : Option Heard). option_map_or (λ last. last.moment) o n.moment) (sym (is_earlier on moment out hs c off)))
 renews_on bases hs moment c out b n true false accepted number here other =
     let on = is_on bases b.component n.check in
     let off : on c ≡ false = ap (λ (t : Bool). t && ((n.check.base == c.base) && is_endpoint c.from n.check.from)) accepted
-        ∙ (ap (λ (t : Bool). (n.check.base == c.base) && t) other ∙ and_no (n.check.base == c.base)) in
+    ∙ (ap (λ (t : Bool). (n.check.base == c.base) && t) other ∙ and_no (n.check.base == c.base)) in
     there moment c b (record { remote = n.check.from; heard_at = renewal bases b.component hs n }) false here other
     ∙ pair_of b n.check.from (renewal bases b.component hs n) (renewal bases b.component (heard_now moment c out hs) n)
     (ap (λ (o : Option Heard). option_map_or (λ last. last.moment) o n.moment) (sym (is_earlier on moment out hs c off)))
 renews_on bases hs moment c out b n true true accepted number here same =
     let on = is_on bases b.component n.check in
     let yes : on c ≡ true = and_from (is_accepted bases b.component c) ((n.check.base == c.base) && is_endpoint c.from n.check.from) accepted
-        (and_from (n.check.base == c.base) (is_endpoint c.from n.check.from) (ap (λ (x : ℕ). x == c.base) (sym number) ∙ here) same) in
+    (and_from (n.check.base == c.base) (is_endpoint c.from n.check.from) (ap (λ (x : ℕ). x == c.base) (sym number) ∙ here) same) in
     there moment c b (record { remote = n.check.from; heard_at = renewal bases b.component hs n }) true here same
     ∙ pair_of b n.check.from moment (renewal bases b.component (heard_now moment c out hs) n)
     (sym (ap (λ (o : Option Heard). option_map_or (λ last. last.moment) o n.moment) (is_latest on moment out hs c yes)))
@@ -226,14 +226,14 @@ heard_by : (bases : List LiteBase) (hs : List Happening) (moment : ℕ) (c : Che
     → (b0.component == b.component) ≡ t → heard b0.component moment c (past bases hs b) ≡ past bases (heard_now moment c out hs) b
 heard_by bases hs moment c out b0 b true role found same =
     let accepted : is_accepted bases b.component c ≡ true =
-        ap (λ (r : Role). is_controlling r && option_map_or (is_of b.component) (find (is_base c.base) bases) false) role
-        ∙ (ap (λ (o : Option LiteBase). option_map_or (is_of b.component) o false) found ∙ same) in
+    ap (λ (r : Role). is_controlling r && option_map_or (is_of b.component) (find (is_base c.base) bases) false) role
+    ∙ (ap (λ (o : Option LiteBase). option_map_or (is_of b.component) o false) found ∙ same) in
     ap (λ (t : Bool). if t then (if c.nominates then nominated moment c (past bases hs b) else refreshed moment c (past bases hs b)) else past bases hs b) same
     ∙ accepted_by bases hs moment c out b c.nominates accepted refl
 heard_by bases hs moment c out b0 b false role found other =
     let refused : is_accepted bases b.component c ≡ false =
-        ap (λ (r : Role). is_controlling r && option_map_or (is_of b.component) (find (is_base c.base) bases) false) role
-        ∙ (ap (λ (o : Option LiteBase). option_map_or (is_of b.component) o false) found ∙ other) in
+    ap (λ (r : Role). is_controlling r && option_map_or (is_of b.component) (find (is_base c.base) bases) false) role
+    ∙ (ap (λ (o : Option LiteBase). option_map_or (is_of b.component) o false) found ∙ other) in
     ap (λ (t : Bool). if t then (if c.nominates then nominated moment c (past bases hs b) else refreshed moment c (past bases hs b)) else past bases hs b) other
     ∙ unaccepted bases hs moment c out b refused
 
