@@ -1,5 +1,5 @@
 -- A lite ICE agent, as C makes it and passes it datagrams.
-use Rattle.std.specs.Prelude.{◌≡◌, ◌⊎◌, ℕ, Bool, true, false, not, ◌&&◌, List, map, Option, None, Result, MatchOption, IsSomeAnd, ◌==◌}
+use Rattle.std.specs.Prelude.{◌≡◌, ◌⊎◌, ℕ, Bool, false, not, ◌&&◌, List, map, Option, None, Result, MatchOption, IsSomeAnd}
 use Rattle.std.specs.List.{list_any}
 use Rattle.std.specs.Option.{option_or}
 use Rattle.stun_grammar.specs.declared.error.StunWriteError.{StunWriteError}
@@ -17,8 +17,8 @@ use Rattle.stun_types_c.specs.declared.address.Address.{Address}
 use Rattle.stun_types_c.specs.declared.call_result.CResult.{CResult}
 use Rattle.stun_types_c.specs.declared.ice_datagrams.CIcePath.{CIcePath}
 use Rattle.stun_types_c.specs.declared.ice_datagrams.CIceReceived.{CIceReceived}
-use Rattle.stun_types_c.specs.declared.ice_lite.CIceLiteBase.{CIceLiteBase}
-use Rattle.stun_types_c.specs.declared.ice_lite.CIceLiteSettings.{CIceLiteSettings}
+use Rattle.stun_types_c.specs.declared.ice_lite_calls.CIceLiteBase.{CIceLiteBase}
+use Rattle.stun_types_c.specs.declared.ice_lite_calls.CIceLiteSettings.{CIceLiteSettings}
 use Rattle.stun_types_c.specs.declared.ice_lite_core.IceLiteCore.{IceLiteCore}
 use Rattle.stun_types_c.specs.AllocationMaking.{endpoint_named}
 use Rattle.stun_types_c.specs.CResults.{plain, Refuses}

@@ -1,4 +1,4 @@
-use Rattle.stun_types_c.proofs.ice_lite.route.Goals as goal
+use Rattle.stun_types_c.proofs.ice_lite_calls.route.Goals as goal
 
 pub returns : goal.returns
 returns c = record {

@@ -1,12 +1,12 @@
 //! A lite ICE agent.
 
 ghost use Rattle.std.specs.Prelude.{◌≡◌, ◌⊎◌, All, IfOk, List, MatchResult, None, Some, box_value, map, ℕ};
-ghost use Rattle.ice_agent.specs.Agents.{IsLogin};
+ghost use Rattle.std.specs.List.{list_any};
 ghost use Rattle.ice_agent.specs.Lite.{begun};
 ghost use Rattle.stun_types_c.specs.CResults.{plain};
 ghost use Rattle.stun_types_c.specs.Codes.{OUT_OF_MEMORY};
 ghost use Rattle.stun_types_c.specs.IceCalls.{no_received};
-ghost use Rattle.stun_types_c.specs.IceLite.{IsLite, LiteRoutesIn, MakesLite, RoutesLite, TakesInC, TakesLite, base_named, is_free};
+ghost use Rattle.stun_types_c.specs.IceLite.{IsLite, LiteRoutesIn, MakesLite, RoutesLite, TakesInC, TakesLite, base_named, is_free, is_reserved};
 ghost use Rattle.stun_types_c.specs.IceLiteHandles.{held_lite};
 ghost use Rattle.stun_types_c.specs.IceMaking.{login_answer};
 ghost use Rattle.stun_types_c.specs.Versions.{no_key};
@@ -67,11 +67,18 @@ pub extern "C" fn stun_types_ice_lites_free(alloc: Global, agents: &mut [CIceLit
     release_all(agents, alloc);
 }
 
+/// Whether what is reserved isn't 0 in a base.
+fn is_any_reserved(bases: &[CIceLiteBase]) -> bool
+    ensures { result ≡ list_any is_reserved bases.now }
+{
+    bases.iter().any(|base| base.reserved != 0)
+}
+
 /// Whether what is reserved is 0.
 fn is_free(named: &CIceLiteSettings<'_>) -> bool
     ensures { result ≡ is_free named.now }
 {
-    named.reserved == 0 && !named.bases.iter().any(|base| base.reserved != 0)
+    named.reserved == 0 && !is_any_reserved(named.bases)
 }
 
 /// The bases that C names.
