@@ -95,6 +95,9 @@ TYPES = {
     "ice_checked": "CIcePair",
     "ice_change": "CIceChange",
     "ice_candidate": "CIceCandidate",
+    "ice_lite": "CIceLite",
+    "ice_lite_base": "CIceLiteBase",
+    "ice_lite_settings": "CIceLiteSettings",
 }
 # Fields that have another name in Rattle.
 NAMES = {"type": ("atype", "mtype"), "message_class": ("class",), "at": ("place",)}
@@ -266,7 +269,7 @@ def declared():
 def in_c(kind):
     """What a type of Rattle may be in C: the types of one field, or of two, for each."""
     names = {of: name for name, of in TYPES.items()}
-    if kind in ("KeyPlace", "TurnPlace", "AllocationPlace", "IcePlace"):
+    if kind in ("KeyPlace", "TurnPlace", "AllocationPlace", "IcePlace", "IceLitePlace"):
         return [("*void",)]
     many = re.fullmatch(r"&'a \[(\w+)\]", kind)
     if many:

@@ -11,7 +11,8 @@
  *   stun_types_turn_ended, stun_types_turn_over and stun_types_turn_end_user return 0.
  * - No call keeps a pointer, prints, blocks or aborts. Only the calls whose comments say so
  *   allocate (by malloc), and at most twice the bytes of their arguments and 1,024 more at once;
- *   stun_types_turn_new, stun_types_allocation_new, stun_types_ice_new and stun_types_ice_poll allocate more. All may run in several threads at once. One key may be used
+ *   stun_types_turn_new, stun_types_allocation_new, stun_types_ice_new, stun_types_ice_poll and
+ *   stun_types_ice_lite_new allocate more. All may run in several threads at once. One key may be used
  *   by any number of calls at once that take it as const stun_types_key *; a call that takes it as
  *   stun_types_key * makes or frees it, and has it alone.
  * - Numbers in messages are big-endian; numbers in these structs are the machine's.
@@ -2077,6 +2078,81 @@ typedef struct {
 STUN_TYPES_NODISCARD STUN_TYPES_NONNULL((1, 2))
 bool stun_types_ice_changes(stun_types_ice *agent, stun_types_ice_change *change);
 
+/* ---- A lite ICE agent (RFC 8445, sections 2.5 and 7.3.2) ------------------------------------------ */
+
+/* A lite ICE agent, for a server with a public address whose peers are full agents. It answers the peer's
+   checks, and sends no request, so it has no timers. It is always controlled: a check with ICE-CONTROLLED
+   gets 487 (Role Conflict). It needs no credentials of the peer. It begins as STUN_TYPES_ICE_LITE_INIT;
+   stun_types_ice_lite_new makes it, and frees what it held before; stun_types_ice_lite_free ends it. C
+   neither reads, writes nor copies its fields; whether a struct holds an agent is tested as with a key. No
+   two calls may use it at once. now is as for stun_types_ice.
+   Pass each datagram of its bases to stun_types_ice_lite_datagram, and send the response, if there is one.
+   Data goes where stun_types_ice_lite_route says. A restart (section 9) is a second agent, with other
+   credentials. */
+typedef struct {
+    void *at;
+    uint64_t held;
+} stun_types_ice_lite;
+
+#define STUN_TYPES_ICE_LITE_INIT { NULL, 0 }
+
+/* STUN_TYPES_ICE_LITE_INIT, for languages that read no macros. */
+STUN_TYPES_NODISCARD
+stun_types_ice_lite stun_types_ice_lite_none(void);
+
+/* A socket of a lite agent: its host candidate (section 5.2). */
+typedef struct {
+    uint32_t number;    /* of the caller's choice; of two bases with the same number the first counts */
+    uint16_t component; /* of a data stream: different ones have different numbers, in all streams */
+    uint16_t reserved;
+} stun_types_ice_lite_base;
+
+/* The settings of a lite agent. */
+typedef struct {
+    const void *ufrag;     /* the texts of its username fragment and of its password, as for stun_types_ice */
+    size_t ufrag_length;
+    const void *password;
+    size_t password_length;
+    const stun_types_ice_lite_base *bases;
+    size_t base_count;
+    uint64_t reserved;
+} stun_types_ice_lite_settings;
+
+/* Makes a lite agent. It copies the settings, and allocates all the memory that the agent uses.
+   BAD_ARGUMENT: a reserved field isn't 0, or password is empty. INVALID_DATA: ufrag or password isn't one.
+   Allocates: OUT_OF_MEMORY. If the call fails, the agent stays as it was. */
+STUN_TYPES_NODISCARD STUN_TYPES_NONNULL((1, 2))
+stun_types_answer stun_types_ice_lite_new(stun_types_ice_lite *agent,
+                                          const stun_types_ice_lite_settings *settings);
+
+/* Frees the agents of an array, overwrites their keys, and leaves STUN_TYPES_ICE_LITE_INIT for each. */
+void stun_types_ice_lites_free(stun_types_ice_lite *agents, size_t count);
+
+/* The same with one agent. With STUN_TYPES_ICE_LITE_INIT, and with NULL, it does nothing. */
+static inline void stun_types_ice_lite_free(stun_types_ice_lite *agent) {
+    stun_types_ice_lites_free(agent, agent ? 1 : 0);
+}
+
+/* Takes a datagram that came to the base of this number, from an address. A check with USE-CANDIDATE selects
+   its pair for the component of the base; the latest one counts. What is no STUN message with a FINGERPRINT
+   is the peer's data if it came on the selected pair, and the latest accepted check on that less than 30
+   seconds ago. Any response fits into 128 bytes, except a 420 that lists more than 16 types.
+   BAD_ARGUMENT, and nothing has changed: there is no agent, or the family of from is neither 4 nor 6.
+   TOO_SMALL: out has no room for the response; the datagram counts as received, and the response as lost.
+   TOO_LARGE: a 420 would list more types than a message has room for. It allocates nothing. */
+STUN_TYPES_NODISCARD STUN_TYPES_NONNULL((1, 4, 9))
+stun_types_answer stun_types_ice_lite_datagram(stun_types_ice_lite *agent, uint64_t now, uint32_t base,
+                                               const stun_types_address *from, const uint8_t *datagram,
+                                               size_t length, uint8_t *out, size_t size,
+                                               stun_types_ice_received *received);
+
+/* Returns true, and where data of a component goes now. False, and zeros: no pair is selected, or no check on
+   it was accepted within the last 30 seconds, or there is no agent; data must not be sent. Call it for each
+   datagram, or for each batch. It allocates nothing. */
+STUN_TYPES_NODISCARD STUN_TYPES_NONNULL((1, 4))
+bool stun_types_ice_lite_route(stun_types_ice_lite *agent, uint64_t now, uint16_t component,
+                               stun_types_ice_path *path);
+
 /* ---- Candidates as lines of text (RFC 8839, section 5.1) ---------------------------------------- */
 
 /* The type of a candidate (RFC 8445, section 5.1.1). */
@@ -2505,6 +2581,21 @@ STUN_TYPES_LAYOUT(ice_change_progress, offsetof(stun_types_ice_change, progress)
 STUN_TYPES_LAYOUT(ice_change_role, offsetof(stun_types_ice_change, role) == 32);
 STUN_TYPES_LAYOUT(ice_change_component, offsetof(stun_types_ice_change, component) == 36);
 STUN_TYPES_LAYOUT(ice_change_reserved, offsetof(stun_types_ice_change, reserved) == 38);
+STUN_TYPES_LAYOUT(ice_lite_size, sizeof(stun_types_ice_lite) == 16);
+STUN_TYPES_LAYOUT(ice_lite_at, offsetof(stun_types_ice_lite, at) == 0);
+STUN_TYPES_LAYOUT(ice_lite_held, offsetof(stun_types_ice_lite, held) == 8);
+STUN_TYPES_LAYOUT(ice_lite_base_size, sizeof(stun_types_ice_lite_base) == 8);
+STUN_TYPES_LAYOUT(ice_lite_base_number, offsetof(stun_types_ice_lite_base, number) == 0);
+STUN_TYPES_LAYOUT(ice_lite_base_component, offsetof(stun_types_ice_lite_base, component) == 4);
+STUN_TYPES_LAYOUT(ice_lite_base_reserved, offsetof(stun_types_ice_lite_base, reserved) == 6);
+STUN_TYPES_LAYOUT(ice_lite_settings_size, sizeof(stun_types_ice_lite_settings) == 56);
+STUN_TYPES_LAYOUT(ice_lite_settings_ufrag, offsetof(stun_types_ice_lite_settings, ufrag) == 0);
+STUN_TYPES_LAYOUT(ice_lite_settings_ufrag_length, offsetof(stun_types_ice_lite_settings, ufrag_length) == 8);
+STUN_TYPES_LAYOUT(ice_lite_settings_password, offsetof(stun_types_ice_lite_settings, password) == 16);
+STUN_TYPES_LAYOUT(ice_lite_settings_password_length, offsetof(stun_types_ice_lite_settings, password_length) == 24);
+STUN_TYPES_LAYOUT(ice_lite_settings_bases, offsetof(stun_types_ice_lite_settings, bases) == 32);
+STUN_TYPES_LAYOUT(ice_lite_settings_base_count, offsetof(stun_types_ice_lite_settings, base_count) == 40);
+STUN_TYPES_LAYOUT(ice_lite_settings_reserved, offsetof(stun_types_ice_lite_settings, reserved) == 48);
 STUN_TYPES_LAYOUT(ice_candidate_size, sizeof(stun_types_ice_candidate) == 88);
 STUN_TYPES_LAYOUT(ice_candidate_foundation, offsetof(stun_types_ice_candidate, foundation) == 0);
 STUN_TYPES_LAYOUT(ice_candidate_foundation_length, offsetof(stun_types_ice_candidate, foundation_length) == 32);

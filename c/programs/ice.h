@@ -20,7 +20,7 @@ enum {
 static const uint64_t NEVER = UINT64_MAX, MILLISECOND = 1000000;
 
 typedef struct {
-    bool controlling, lite_peer, relay_only, json;
+    bool controlling, lite, lite_peer, relay_only, json;
     bool has_stun, has_turn;
     target stun;
     const char *own_file, *peer_file; /* NULL: none */

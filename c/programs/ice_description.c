@@ -23,6 +23,7 @@ static void each_line(void (*use)(const char *line, void *with), void *with) {
     snprintf(line, sizeof line, "a=ice-pwd:%s", own_password());
     use(line, with);
     use("a=ice-options:trickle", with);
+    if (ice.lite) use("a=ice-lite", with);
     for (size_t i = 0; i < line_count; i++) use(lines[i], with);
     if (is_ended) use("a=end-of-candidates", with);
 }

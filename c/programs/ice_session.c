@@ -1,14 +1,16 @@
-/* The agent of the library (RFC 8445), and at a restart the one before it. */
+/* The agent of the library (RFC 8445), full or lite, and at a restart the one before it. */
 #include "ice.h"
 
 #include <sys/random.h>
 
 enum { COMPONENT = 1, CHECK_ROOM = 1500, OWN_FRAGMENT = 8, OWN_PASSWORD = 24, MOST_FOUNDATIONS = MOST_CANDIDATES };
 enum { CHECKS_WAIT = 39500 }; /* milliseconds, the PAC timer of RFC 8863 */
+enum { LITE_INTERVAL = 1000 }; /* milliseconds, after which a lite agent's path is looked at again */
 
 /* An agent, and the descriptions that it was made by. */
 typedef struct {
     stun_types_ice agent;
+    stun_types_ice_lite lite; /* the one that is used with --lite */
     char fragment[OWN_FRAGMENT + 1], password[OWN_PASSWORD + 1];
     char peer_fragment[FRAGMENT_ROOM], peer_password[FRAGMENT_ROOM];
     bool has_peer, has_all;   /* the peer's credentials, and all its candidates, are known */
@@ -22,6 +24,7 @@ typedef struct {
     uint64_t wake; /* in nanoseconds */
     uint64_t met; /* when the peer's credentials were known */
     uint64_t connect_until;
+    stun_types_ice_path path; /* a lite agent's, which was reported */
 } session;
 
 static session sessions[2];
@@ -66,6 +69,7 @@ static bool draw_number(uint64_t *number) {
 
 static void pass_base(size_t number) {
     stun_types_ice_base base;
+    if (ice.lite) return;
     memset(&base, 0, sizeof base);
     candidate_kind kind = number == RELAY ? RELAYED : HOST;
     base.number = (uint32_t)number;
@@ -80,7 +84,7 @@ static void pass_base(size_t number) {
 
 /* The agent doesn't report this address as one that it has discovered. */
 static void pass_address(const stun_types_address *address) {
-    ignore(stun_types_ice_add_address(&current->agent, address));
+    if (!ice.lite) ignore(stun_types_ice_add_address(&current->agent, address));
 }
 
 void add_address(const stun_types_address *address) {
@@ -89,9 +93,30 @@ void add_address(const stun_types_address *address) {
     pass_address(address);
 }
 
+/* Makes the current agent, a lite one, whose bases are the hosts. */
+static int make_lite_agent(void) {
+    stun_types_ice_lite_base places[MOST_HOSTS];
+    stun_types_ice_lite_settings settings;
+    memset(places, 0, sizeof places);
+    memset(&settings, 0, sizeof settings);
+    for (size_t i = 0; i < host_count; i++) {
+        places[i].number = (uint32_t)i;
+        places[i].component = COMPONENT;
+    }
+    settings.ufrag = current->fragment;
+    settings.ufrag_length = OWN_FRAGMENT;
+    settings.password = current->password;
+    settings.password_length = OWN_PASSWORD;
+    settings.bases = places;
+    settings.base_count = host_count;
+    stun_types_answer answer = stun_types_ice_lite_new(&current->lite, &settings);
+    return is_fine(answer) ? STATUS_DONE : fails(answer);
+}
+
 /* Makes the current agent, which knows the bases alone. */
 static int make_agent(void) {
     stun_types_ice_settings settings;
+    if (ice.lite) return make_lite_agent();
     memset(&settings, 0, sizeof settings);
     settings.ufrag = current->fragment;
     settings.ufrag_length = OWN_FRAGMENT;
@@ -125,9 +150,14 @@ int begin_session(void) {
     return make_session();
 }
 
+static void free_agents(session *of) {
+    stun_types_ice_free(&of->agent);
+    stun_types_ice_lite_free(&of->lite);
+}
+
 int restart_session(const char *why) {
     report("restart", "reason", why, NULL);
-    if (has_former) stun_types_ice_free(&former()->agent);
+    if (has_former) free_agents(former());
     current = former();
     has_former = true;
     int status = make_session();
@@ -153,13 +183,13 @@ void add_base(size_t number, const stun_types_address *address, bool link_local)
 
 /* Frees the agent before, which is no longer needed. */
 static void end_former(void) {
-    if (has_former) stun_types_ice_free(&former()->agent);
+    if (has_former) free_agents(former());
     has_former = false;
 }
 
 void close_session(void) {
     end_former();
-    stun_types_ice_free(&current->agent);
+    free_agents(current);
     explicit_bzero(sessions, sizeof sessions);
 }
 
@@ -172,13 +202,18 @@ static bool keep(char to[FRAGMENT_ROOM], const char *text, size_t length) {
     return true;
 }
 
-/* Passes the peer's credentials to the agent, once both are known. */
+/* Passes the peer's credentials to a full agent. */
+static stun_types_answer set_peer(session *of) {
+    return stun_types_ice_set_peer(&of->agent, now * MILLISECOND, of->peer_fragment, strlen(of->peer_fragment),
+                                   of->peer_password, strlen(of->peer_password));
+}
+
+/* Passes the peer's credentials to the agent, once both are known; a lite one needs none. */
 static void meet(void) {
+    static const stun_types_answer fine = {STUN_TYPES_OK, 0, 0, 0};
     session *of = current;
     if (of->has_peer || of->is_stale || of->peer_fragment[0] == 0 || of->peer_password[0] == 0) return;
-    stun_types_answer answer =
-        stun_types_ice_set_peer(&of->agent, now * MILLISECOND, of->peer_fragment, strlen(of->peer_fragment),
-                                of->peer_password, strlen(of->peer_password));
+    stun_types_answer answer = ice.lite ? fine : set_peer(of);
     of->has_peer = is_fine(answer);
     if (!of->has_peer) say(STATUS_REFUSED, "the peer's fragment or password: %s", stun_types_status_text(answer.code));
     else of->connect_until = now + asked.wait;
@@ -207,7 +242,8 @@ void take_password(const char *password, size_t length) {
 
 /* The peer is a lite agent, so this one controls (RFC 8445, section 6.1.1). */
 void take_lite(void) {
-    if (is_controlling || current->is_stale || current->has_peer) return;
+    if (ice.lite) say(STATUS_DONE, "both agents are lite, so neither checks anything");
+    if (ice.lite || is_controlling || current->is_stale || current->has_peer) return;
     is_controlling = true;
     (void)make_agent();
     meet();
@@ -233,6 +269,10 @@ void take_candidate(const stun_types_address *address, const char *foundation, s
     remote.foundation = number_of(foundation, length);
     remote.priority = priority;
     remote.component = COMPONENT;
+    if (ice.lite) {
+        current->remotes++;
+        return;
+    }
     stun_types_answer answer = stun_types_ice_add_remote(&current->agent, now * MILLISECOND, &remote);
     if (answer.code == STUN_TYPES_EXISTS) return;
     if (is_fine(answer)) current->remotes++;
@@ -272,17 +312,26 @@ static bool is_check_for(const session *of, const uint8_t *bytes, size_t length)
            memcmp(bytes + found.value_at, of->fragment, OWN_FRAGMENT) == 0;
 }
 
+/* Passes a datagram to the agent of a session. */
+static stun_types_answer pass_to_agent(session *of, size_t base, const stun_types_address *from, const uint8_t *bytes,
+                                       size_t length, uint8_t room[CHECK_ROOM], stun_types_ice_received *received) {
+    uint64_t random;
+    static const stun_types_answer no_random = {STUN_TYPES_BAD_ARGUMENT, 0, 0, 0};
+    if (ice.lite) {
+        return stun_types_ice_lite_datagram(&of->lite, now * MILLISECOND, (uint32_t)base, from, bytes, length, room,
+                                            CHECK_ROOM, received);
+    }
+    if (!draw_number(&random)) return no_random;
+    return stun_types_ice_datagram(&of->agent, now * MILLISECOND, (uint32_t)base, from, bytes, length, random, room,
+                                   CHECK_ROOM, received);
+}
+
 /* Whether a session has taken a datagram. */
 static bool pass_datagram(session *of, size_t base, const stun_types_address *from, const uint8_t *bytes,
                           size_t length) {
     uint8_t room[CHECK_ROOM];
-    uint64_t random;
     stun_types_ice_received received;
-    if (!draw_number(&random) ||
-        !is_fine(stun_types_ice_datagram(&of->agent, now * MILLISECOND, (uint32_t)base, from, bytes, length, random,
-                                         room, sizeof room, &received))) {
-        return false;
-    }
+    if (!is_fine(pass_to_agent(of, base, from, bytes, length, room, &received))) return false;
     if (received.kind == STUN_TYPES_ICE_RESPONSE) (void)send_from(base, from, room, received.length);
     if (received.kind == STUN_TYPES_ICE_DATA) take_data(bytes, length);
     return received.kind != STUN_TYPES_ICE_NOTHING;
@@ -297,6 +346,7 @@ void take_datagram(size_t base, const stun_types_address *from, const uint8_t *b
 
 /* Finds where data of a session goes. */
 static bool find_path(session *of, stun_types_ice_path *path) {
+    if (ice.lite) return stun_types_ice_lite_route(&of->lite, now * MILLISECOND, COMPONENT, path);
     return stun_types_ice_route(&of->agent, now * MILLISECOND, COMPONENT, path);
 }
 
@@ -341,6 +391,7 @@ static int explain(void) {
         if (pair.tries > most) most = pair.tries;
     }
     if (!of->has_peer) return fail(STATUS_SILENT, "the peer has described nothing");
+    if (ice.lite) return fail(STATUS_SILENT, "no check of the peer has nominated a pair");
     if (of->remotes == 0) return fail(STATUS_SILENT, "no candidate of the peer can be used; it has %zu", of->skipped);
     if (pairs == 0) return fail(STATUS_SILENT, "no candidate of the peer has an address family of this side's");
     if (answered > 0) {
@@ -351,10 +402,14 @@ static int explain(void) {
 
 /* ---- Turns ------------------------------------------------------------------------------------ */
 
-static void report_path(const char *event, const stun_types_ice_change *change) {
+static void report_at(const char *event, size_t base, const stun_types_address *address) {
     char from[ADDRESS_ROOM], to[ADDRESS_ROOM];
-    report(event, "base", name_of_base(change->base), "from", text_of(&bases[change->base].address, from), "to",
-           text_of(&change->address, to), NULL);
+    report(event, "base", name_of_base(base), "from", text_of(&bases[base].address, from), "to",
+           text_of(address, to), NULL);
+}
+
+static void report_path(const char *event, const stun_types_ice_change *change) {
+    report_at(event, change->base, &change->address);
 }
 
 /* A pair is selected. */
@@ -362,6 +417,12 @@ static void take_selection(session *of, const stun_types_ice_change *change) {
     if (of == current) end_former();
     if (change->base == RELAY) permit(&change->address, true);
     report_path("connected", change);
+}
+
+/* The connection is lost. Returns the status. */
+static int lose(const char *why) {
+    if (ice.peer_file != NULL) return restart_session("the peer's consent has expired");
+    return fail(STATUS_SILENT, "%s: its consent has expired", why);
 }
 
 /* Another status of the connection. Returns the program's. */
@@ -376,9 +437,7 @@ static int take_status(session *of, const stun_types_ice_change *change) {
         print_pairs();
         return explain();
     }
-    if (change->progress != STUN_TYPES_ICE_LOST) return STATUS_DONE;
-    if (ice.peer_file != NULL) return restart_session("the peer's consent has expired");
-    return fail(STATUS_SILENT, "the peer no longer answers: its consent has expired");
+    return change->progress == STUN_TYPES_ICE_LOST ? lose("the peer no longer answers") : STATUS_DONE;
 }
 
 static int take_change(session *of, const stun_types_ice_change *change) {
@@ -413,8 +472,25 @@ static int send_checks(session *of) {
     return STATUS_DONE;
 }
 
+/* Looks at the path of a lite agent, which has nothing else to do. Returns the status. */
+static int turn_lite_agent(session *of) {
+    stun_types_ice_path path;
+    bool was_there = of->path.to.family != 0, is_there = find_path(of, &path);
+    bool is_same = memcmp(&path, &of->path, sizeof path) == 0;
+    of->path = path;
+    of->wake = is_there ? (now + LITE_INTERVAL) * MILLISECOND : NEVER;
+    if (is_same) return STATUS_DONE;
+    is_printing = true;
+    if (!is_there) return was_there && of == current ? lose("the peer no longer checks") : STATUS_DONE;
+    of->connect_until = NEVER;
+    if (of == current) end_former();
+    report_at("connected", path.base, &path.to);
+    return STATUS_DONE;
+}
+
 static int turn_agent(session *of) {
     stun_types_ice_change change;
+    if (ice.lite) return turn_lite_agent(of);
     int status = send_checks(of);
     while (status == STATUS_DONE && stun_types_ice_changes(&of->agent, &change)) status = take_change(of, &change);
     return status;
@@ -428,7 +504,7 @@ static bool has_all_known(const session *of) {
 
 int turn_session(void) {
     session *of = current;
-    if (!of->has_ended && has_all_known(of)) {
+    if (!ice.lite && !of->has_ended && has_all_known(of)) {
         of->has_ended = is_fine(stun_types_ice_end_candidates(&of->agent, now * MILLISECOND));
     }
     int status = turn_agent(of);

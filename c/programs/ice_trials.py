@@ -86,6 +86,13 @@ class Side:
         complaints = [it for it in self.others if "Sanitizer" in it]
         check(got == status and not complaints, f"status {got}: {self.told()}")
 
+    def end_of_connection(self, status):
+        """Waits until it ends by itself."""
+        got = self.ran.wait(PATIENCE)
+        for reader in self.readers:
+            reader.join()
+        check(got == status, f"status {got}: {self.told()}")
+
     def __enter__(self):
         return self
 
@@ -286,6 +293,56 @@ def lite(programs):
                 one.end()
             answered = peer.communicate(timeout=PATIENCE)[0]
         check("nominated" in answered and "refused" not in answered, f"the peer says {answered!r}")
+
+
+def lite_agent(programs):
+    """This side is a lite agent: to a peer that controls, and to one that learns from the description that it has to.
+    When the peer restarts, data goes on; when it stops, the lite agent says so 30 s later. Two lite ones never connect."""
+    for role in ([], ["-c"]):
+        with tempfile.TemporaryDirectory(prefix="stun-ice-") as folder:
+            files = [f"{folder}/left", f"{folder}/right"]
+            with Side(programs["stun-ice"], *LOCAL, *role, "-o", files[0], "-p", files[1]) as one, \
+                    Side(programs["stun-ice"], *LOCAL, "--lite", "-o", files[1], "-p", files[0]) as other:
+                talk(one, other)
+                check("a=ice-lite" in pathlib.Path(files[1]).read_text(), "it doesn't describe itself as lite")
+                exchange(one, other)
+                one.ran.send_signal(signal.SIGUSR2)
+                talk(one, other, 2)
+                finish(one, other)
+    with Side(programs["stun-ice"], *LOCAL, "-c") as one, Side(programs["stun-ice"], *LOCAL, "-L") as other:
+        one.write(other.wait_for("description")["line"].encode() + b"\n")
+        other.write(one.wait_for("description")["line"].encode() + b"\n")
+        talk(one, other)
+        one.ran.kill()
+        killed = time.monotonic()
+        other.end_of_connection(4)
+        took = time.monotonic() - killed
+        check(23 < took < 33, f"the lite agent gave up after {took:.1f} s")
+    with Side(programs["stun-ice"], *LOCAL, "-L", "-w", 2) as one, Side(programs["stun-ice"], *LOCAL, "-L", "-w", 2) as other:
+        one.write(other.wait_for("description")["line"].encode() + b"\n")
+        other.write(one.wait_for("description")["line"].encode() + b"\n")
+        for it in (one, other):
+            it.end_of_connection(4)
+            check("both agents are lite" in "".join(it.others), f"it says {it.told()}")
+
+
+def lite_with_libnice(programs):
+    """An agent of libnice connects to a lite one in each role: a controlled one gets 487, and controls then."""
+    command = libnice_command(programs)
+    with Networks() as network:
+        for role in ("controlling", "controlled"):
+            for nomination in ("regular", "aggressive"):
+                took = with_other(programs, network, command, ["-L"], SOME, role, nomination)
+                print(f"  libnice {role}, {nomination}, ours lite: {took:.2f} s, {SOME} bytes each way", flush=True)
+
+
+def lite_with_aioice(programs):
+    """An agent of aioice likewise."""
+    command = aioice_command(programs)
+    with Networks() as network:
+        for role in ("controlling", "controlled"):
+            took = with_other(programs, network, command, ["-L"], SOME, role)
+            print(f"  aioice {role}, ours lite: {took:.2f} s, {SOME} bytes each way", flush=True)
 
 
 def full_output(programs):

@@ -14,6 +14,7 @@ static const char help[] =
     "\n"
     "  -c, --controlling         choose the pair; one of both does\n"
     "  -l, --lite-peer           the peer is a lite agent, so this side chooses\n"
+    "  -L, --lite                be a lite agent: answer the peer's checks, and send none\n"
     "  -o, --own FILE            write the description to FILE, too\n"
     "  -p, --peer FILE           read the peer's from FILE, as soon as it is there, and when it changes\n"
     "  -a, --address ADDRESS     use this address of this machine; up to 15 times; otherwise all of its\n"
@@ -41,6 +42,7 @@ static const char help[] =
 static const struct option words[] = {COMMON_WORDS,
                                       {"controlling", no_argument, NULL, 'c'},
                                       {"lite-peer", no_argument, NULL, 'l'},
+                                      {"lite", no_argument, NULL, 'L'},
                                       {"own", required_argument, NULL, 'o'},
                                       {"peer", required_argument, NULL, 'p'},
                                       {"address", required_argument, NULL, 'a'},
@@ -317,6 +319,7 @@ static bool take_own_option(int letter, const char *value) {
     switch (letter) {
     case 'c': return ice.controlling = true;
     case 'l': return ice.lite_peer = true;
+    case 'L': return ice.lite = true;
     case 'R': return ice.relay_only = true;
     case 'j': return ice.json = true;
     case 'o': ice.own_file = value; return *value != 0;
@@ -338,13 +341,15 @@ int main(int count, char **arguments) {
     asked.program = "stun-ice";
     asked.carries = STUN_TYPES_STREAM_CHANNEL_DATA;
     asked.wait = USUAL_WAIT;
-    while ((letter = getopt_long(count, arguments, COMMON_LETTERS "clo:p:a:s:r:Rj", words, NULL)) != -1) {
+    while ((letter = getopt_long(count, arguments, COMMON_LETTERS "clLo:p:a:s:r:Rj", words, NULL)) != -1) {
         if (letter == 'h') return print_text(help);
         if (letter == 'V') return print_text("stun-ice of stun_types " STUN_TYPES_VERSION_TEXT "\n");
         if (!take_own_option(letter, optarg)) return usage();
     }
     bool needs_turn = ice.relay_only || asked.reliable || asked.user != NULL;
     if (optind != count || ice.has_turn != (asked.user != NULL) || (needs_turn && !ice.has_turn)) return usage();
+    bool controls = ice.controlling || ice.lite_peer;
+    if (ice.lite && (controls || ice.has_stun || ice.has_turn)) return usage();
     if (asked.password_file != NULL && (asked.user == NULL || strcmp(asked.password_file, "-") == 0)) return usage();
     return run();
 }

@@ -3,3 +3,4 @@ mod ReadyLemmas
 mod RunsLemmas
 mod ReceivingLemmas
 mod RestartsLemmas
+mod LiteLemmas

@@ -4,3 +4,4 @@ pub mod Receiving
 pub mod Sending
 pub mod Runs
 pub mod Restarts
+pub mod Lite

@@ -16,7 +16,7 @@ use Rattle.ice_checks.specs.declared.judged.Judged.{Judged}
 use Rattle.ice_checks.specs.declared.judged.Judged.TheVariants.{Arrives, Strays, Refused, Responds, Checks}
 use Rattle.ice_checks.specs.Checks.{response_length, response_text}
 use Rattle.ice_checks.specs.Judging.{event_of, judge, refusal_to}
-use Rattle.ice_checks.specs.Views.{Response, Signing, success, role_conflict}
+use Rattle.ice_checks.specs.Views.{Login, Response, Signing, success, role_conflict}
 use Rattle.ice_agent.specs.declared.receiving.Received.{Received}
 use Rattle.ice_agent.specs.declared.receiving.Received.TheVariants.{Nothing, Response as Responded, Data}
 use Rattle.ice_agent.specs.Agents.{Agent}
@@ -69,8 +69,11 @@ pub record Reply : Type 0 where
   pub signing : Option Signing
 
 -- responses are signed by this agent's key, with the algorithm of the request (RFC 8489, section 9.1.3)
+abbrev pub signing_with : (own : Login) → IntegrityAlgorithm → Signing
+signing_with own algorithm = record { key = own.key; algorithm = algorithm }
+
 abbrev pub signing_by : Agent → IntegrityAlgorithm → Signing
-signing_by agent algorithm = record { key = agent.logins.own.key; algorithm = algorithm }
+signing_by agent algorithm = signing_with agent.logins.own algorithm
 
 -- to a check: success, or 487
 abbrev pub check_response : (from : Endpoint) → Answer → Response
@@ -78,20 +81,23 @@ check_response from Accepted = success from
 check_response from (RefusedBy code) = role_conflict
 
 -- what a datagram is answered with, if it is answered: a check, or a request that isn't one
-abbrev pub reply_to : Agent → List ℕ → Judged → Answer → Option Reply
-reply_to agent d (Checks check algorithm) answer = Some (record {
+abbrev pub reply_with : (own : Login) → List ℕ → Judged → Answer → Option Reply
+reply_with own d (Checks check algorithm) answer = Some (record {
   id = check.id % 2 ^ 96;
   response = check_response check.from answer;
-  signing = Some (signing_by agent algorithm);
+  signing = Some (signing_with own algorithm);
 })
-reply_to agent d (Refused id refusal signed_by) answer = Some (record {
+reply_with own d (Refused id refusal signed_by) answer = Some (record {
   id = id % 2 ^ 96;
   response = refusal_to d refusal;
-  signing = option_map (signing_by agent) signed_by;
+  signing = option_map (signing_with own) signed_by;
 })
-reply_to agent d Arrives answer = None
-reply_to agent d (Strays id) answer = None
-reply_to agent d (Responds id said mapped) answer = None
+reply_with own d Arrives answer = None
+reply_with own d (Strays id) answer = None
+reply_with own d (Responds id said mapped) answer = None
+
+abbrev pub reply_to : Agent → List ℕ → Judged → Answer → Option Reply
+reply_to agent d judged answer = reply_with agent.logins.own d judged answer
 
 abbrev pub reply_text : Reply → List ℕ
 reply_text reply = response_text reply.id reply.response reply.signing
@@ -118,10 +124,15 @@ IsData component bytes (Ok (Data shown content)) = (shown ≡ component) × (con
 IsData component bytes _ = ⊥
 
 -- what is returned with this output of the machine, and what the caller's slice holds then
+abbrev pub ReceivesWith : (own : Login) → List ℕ → Judged → Output → (old new : List ℕ) → Result Received StunWriteError
+    → Type 0
+ReceivesWith own d judged (answers base to id answer) old new result =
+    IsReplied (reply_with own d judged answer) old new result
+ReceivesWith own d judged (data_from component bytes) old new result =
+    IsData component bytes result × (new ≡ old)
+ReceivesWith own d judged _ old new result = (result ≡ Ok Nothing) × (new ≡ old)
+
 abbrev pub Receives : Agent → List ℕ → Judged → Output → (old new : List ℕ) → Result Received StunWriteError
     → Type 0
-Receives agent d judged (answers base to id answer) old new result =
-    IsReplied (reply_to agent d judged answer) old new result
-Receives agent d judged (data_from component bytes) old new result =
-    IsData component bytes result × (new ≡ old)
-Receives agent d judged _ old new result = (result ≡ Ok Nothing) × (new ≡ old)
+Receives agent d judged output old new result =
+    ReceivesWith agent.logins.own d judged output old new result

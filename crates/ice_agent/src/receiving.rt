@@ -13,9 +13,10 @@ ghost use Rattle.stun_keys.specs.Keys.{key_algorithm};
 ghost use Rattle.ice_checks.specs.declared.judged.Judged.TheVariants.{Checks, Refused, Responds};
 ghost use Rattle.ice_agent.specs.Agents.{passes};
 ghost use Rattle.ice_agent.specs.Receiving as receiving;
-ghost use Rattle.ice_agent.specs.Receiving.{IsReplied, Receives, event_at, received, reply_to, received_as, check_response, signing_by};
+ghost use Rattle.ice_agent.specs.Receiving.{IsReplied, Receives, event_at, received, reply_to, received_as, check_response, signing_by, signing_with};
 
 use crate::agent::Agent;
+use crate::credentials::AgentCredentials;
 use crate::writing::write_response;
 use ice_checks::{CheckResponse, Credentials, Judged, Refusal, Session, Signature, judge};
 use ice_machine::{Answer, Check};
@@ -36,7 +37,7 @@ pub enum Received<'d> {
 }
 
 /// The response to a check.
-fn response_to(from: Endpoint, answer: Answer) -> CheckResponse<'static>
+pub(crate) fn response_to(from: Endpoint, answer: Answer) -> CheckResponse<'static>
     ensures { response_of result ≡ check_response from answer }
 {
     match answer {
@@ -61,6 +62,29 @@ fn signature_by<'a>(
             algorithm,
         }),
         None => None,
+    }
+}
+
+impl AgentCredentials {
+    /// Writes a response, signed by this key, at the start of a slice.
+    pub(crate) fn reply(
+        &self,
+        alloc: Global,
+        id: u128,
+        response: &CheckResponse<'_>,
+        signed_by: Option<IntegrityAlgorithm>,
+        out: &mut [u8],
+    ) -> Result<Received<'static>, StunWriteError>
+        ensures { IsReplied (Some (record {
+          id = id % 2 ^ 96;
+          response = response_of response.now;
+          signing = option_map (signing_with self.now) signed_by;
+        })) out.old out.new result }
+    {
+        let signature = signature_by(&self.lend(), signed_by);
+        let id = TransactionId::from(id);
+        let length = write_response(alloc, id, response, signature, out)?;
+        Ok(Received::Response(length))
     }
 }
 
@@ -101,10 +125,7 @@ impl Agent {
           signing = option_map (signing_by self.now) signed_by;
         })) out.old out.new result }
     {
-        let signature = signature_by(&self.own.lend(), signed_by);
-        let id = TransactionId::from(id);
-        let length = write_response(alloc, id, response, signature, out)?;
-        Ok(Received::Response(length))
+        self.own.reply(alloc, id, response, signed_by, out)
     }
 
     /// A datagram that is no message of the session has arrived. Returns the component whose data it is.

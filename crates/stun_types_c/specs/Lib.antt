@@ -57,3 +57,6 @@ pub mod IceCandidates
 pub mod IceCalls
 pub mod IceChanges
 pub mod IceTexts
+pub mod IceLiteMarks
+pub mod IceLiteHandles
+pub mod IceLite

@@ -55,7 +55,7 @@ pub struct CIcePath {
 }
 
 /// Nothing comes of a datagram.
-const NOTHING: CIceReceived = CIceReceived {
+pub(crate) const NOTHING: CIceReceived = CIceReceived {
     length: 0,
     kind: 0,
     component: 0,
@@ -95,7 +95,10 @@ fn received_in_c(received: Received<'_>) -> CIceReceived
 }
 
 /// What comes of a datagram that an agent has taken.
-fn taken_in_c(taken: Result<Received<'_>, StunWriteError>, received: &mut CIceReceived) -> CResult
+pub(crate) fn taken_in_c(
+    taken: Result<Received<'_>, StunWriteError>,
+    received: &mut CIceReceived,
+) -> CResult
     ensures { IsReceived taken.entry result received.new }
 {
     match taken {
@@ -271,7 +274,7 @@ pub(crate) fn path_of(route: Route) -> CIcePath
 }
 
 /// A path of data, if there is one, in C's form.
-fn route_in_c(route: Option<Route>, path: &mut CIcePath) -> bool
+pub(crate) fn route_in_c(route: Option<Route>, path: &mut CIcePath) -> bool
     ensures { IsPath route result path.new }
 {
     match route {

@@ -161,7 +161,11 @@ fn ufrag_of(bytes: &[u8]) -> Option<Ufrag<'_>>
 }
 
 /// The credentials of C's bytes.
-fn login_of(alloc: Global, ufrag: &[u8], password: &[u8]) -> Result<AgentCredentials, CResult>
+pub(crate) fn login_of(
+    alloc: Global,
+    ufrag: &[u8],
+    password: &[u8],
+) -> Result<AgentCredentials, CResult>
     ensures { MatchResult result
         (λ login. (login_answer ufrag.now password.now ≡ None) × IsLogin ufrag.now password.now login)
         (λ answer. (login_answer ufrag.now password.now ≡ Some answer)

@@ -1,0 +1,4 @@
+pub mod Agents
+pub mod Steps
+pub mod Runs
+pub mod Past
