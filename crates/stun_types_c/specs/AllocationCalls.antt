@@ -17,7 +17,10 @@ use Rattle.turn_client_state.specs.States.{output_at, setup_of}
 use Rattle.turn_client_state.specs.Waking.{wake}
 use Rattle.turn_client.specs.Clients.{Client, passes}
 use Rattle.turn_client.specs.Receiving as receiving
-use Rattle.turn_client.specs.Receiving.{event_at}
+use Rattle.turn_client.specs.declared.receiving.Received.{Received}
+use Rattle.turn_client.specs.declared.receiving.Received.TheVariants.{Data, Failed, Reservation}
+use Rattle.turn_client.specs.Receiving.{News, event_at, failed, news_at, no_news, reserved}
+use Rattle.turn_client_messages.specs.declared.peer_errors.PeerError.{PeerError}
 use Rattle.turn_client.specs.Sending as sending
 use Rattle.stun_types_c.specs.declared.address.Address.{Address}
 use Rattle.stun_types_c.specs.declared.allocation_client.CAllocationData.{CAllocationData}
@@ -90,18 +93,59 @@ Wants now wish peer result old new =
 -- ---- A datagram
 
 abbrev pub no_data : CAllocationData
-no_data = record { at = 0; length = 0; peer = nowhere; shown = 0 }
+no_data = record {
+  at = 0;
+  length = 0;
+  peer = nowhere;
+  shown = 0;
+  token = 0;
+  icmp_data = 0;
+  icmp_type = 0;
+  icmp_code = 0;
+  reserved = 0;
+}
 
--- data of a peer, a part of d; or none
+-- no ICMP error and no token
+pub record HasNoMore (out : CAllocationData) : Type 0 where
+  pub no_token : out.token ≡ 0
+  pub no_data_of_icmp : out.icmp_data ≡ 0
+  pub no_type : out.icmp_type ≡ 0
+  pub no_code : out.icmp_code ≡ 0
+  pub reserved_is : out.reserved ≡ 0
+
+-- data of a peer, a part of d
 pub record IsShown (peer : Endpoint) (bytes d : List ℕ) (out : CAllocationData) : Type 0 where
   pub peer_is : Holds (socket_of peer) out.peer
   pub stands : slice_range d out.at (out.at + out.length) ≡ bytes
   pub length_is : out.length ≡ length bytes
   pub is_shown : out.shown ≡ 1
+  pub no_more : HasNoMore out
 
-abbrev pub IsData : Output → List ℕ → CAllocationData → Type 0
-IsData (shows peer bytes) d out = IsShown peer bytes d out
-IsData _ d out = out ≡ no_data
+-- a packet to a peer was dropped (RFC 8656, section 11.6)
+pub record IsFailed (failed : PeerError) (out : CAllocationData) : Type 0 where
+  pub peer_is : Holds (socket_of failed.peer) out.peer
+  pub none_at : out.at ≡ 0
+  pub no_length : out.length ≡ 0
+  pub is_failed : out.shown ≡ 2
+  pub no_token : out.token ≡ 0
+  pub data_is : out.icmp_data ≡ failed.error.«data»
+  pub type_is : out.icmp_type ≡ failed.error.icmp_type
+  pub code_is : out.icmp_code ≡ failed.error.code
+  pub reserved_is : out.reserved ≡ 0
+
+-- the server has reserved a port (section 7.3)
+abbrev pub token_in_c : (token : ℕ) → CAllocationData
+token_in_c token = record no_data { shown = 3; token = token }
+
+abbrev pub IsNews : News → CAllocationData → Type 0
+IsNews (failed error) out = IsFailed error out
+IsNews (reserved token) out = out ≡ token_in_c token
+IsNews no_news out = out ≡ no_data
+
+-- the data that is shown, or else what else the datagram tells
+abbrev pub IsTold : Output → News → List ℕ → CAllocationData → Type 0
+IsTold (shows peer bytes) news d out = IsShown peer bytes d out
+IsTold _ news d out = IsNews news out
 
 -- where it is: after the four bytes that a ChannelData message begins with (RFC 8656, section 12.4), or as
 -- the value of the first DATA (section 18.4)
@@ -120,6 +164,13 @@ pub record IsPlaced (peer : Endpoint) (bytes d : List ℕ) (out : CAllocationDat
   pub place_is : out.at ≡ data_place d
   pub length_is : out.length ≡ length bytes
   pub is_shown : out.shown ≡ 1
+  pub no_more : HasNoMore out
+
+abbrev pub IsReceived : Option Received → List ℕ → CAllocationData → Type 0
+IsReceived None d out = out ≡ no_data
+IsReceived (Some (Data given)) d out = IsPlaced given.peer given.data.now d out
+IsReceived (Some (Failed error)) d out = IsFailed error out
+IsReceived (Some (Reservation token)) d out = out ≡ token_in_c token
 
 pub record DataLeft : Type 0 where
   pub core : Option AllocationCore
@@ -130,7 +181,8 @@ pub record ReceivesInC (core : AllocationCore) (now : ℕ) (from : Endpoint) (d 
     (kept : AllocationCore) : Type 0 where
   pub same : kept.changes ≡ core.changes
   pub receives : receiving.Receives core.client now from d kept.client
-  pub in_c : IsData (output_at now 0 (event_at core.client from d) core.client.held) d out
+  pub in_c : IsTold (output_at now 0 (event_at core.client from d) core.client.held)
+      (news_at core.client now from d kept.client.held.state) d out
 
 -- or, if it is a challenge, an allocation fails, and nothing changes
 abbrev pub ReceivesFrom : AllocationCore → (now : ℕ) → (from : Endpoint) → List ℕ → CResult → DataLeft → DataLeft

@@ -1,13 +1,13 @@
 //! What a TURN client is asked for, what it receives, and what it sends.
 
-ghost use Rattle.std.specs.Prelude.{◌≡◌, ◌+◌, ℕ, List, length, slice_range, Some, MatchOption};
+ghost use Rattle.std.specs.Prelude.{◌≡◌, ◌+◌, ℕ, List, length, slice_range, Some};
 ghost use Rattle.stun_endpoints.specs.declared.endpoints.Endpoint.{Endpoint};
 ghost use Rattle.turn_client_machine.specs.Events.{allocates, binds, closes, drops, permits, polls, sends, shows};
 ghost use Rattle.turn_client_state.specs.States.{output_at};
 ghost use Rattle.turn_client_state.specs.Waking.{wake};
 ghost use Rattle.turn_client.specs.Clients.{Client, passes};
 ghost use Rattle.turn_client.specs.Receiving.{event_at};
-ghost use Rattle.stun_types_c.specs.AllocationCalls.{DataLeft, HeadLeft, IsHeadInC, IsPlaced, IsWritten, PollLeft, PollsClient, ReceivesFrom, SendsBy, SendsTo, TakesDatagram, Wants, WantsIn, WritesInC, bind_result, data_place, event_named, head_in_c, name_result, no_data, no_head, permit_result, value_place, wake_shown, with_client};
+ghost use Rattle.stun_types_c.specs.AllocationCalls.{DataLeft, HeadLeft, IsFailed, IsHeadInC, IsPlaced, IsReceived, IsWritten, PollLeft, PollsClient, ReceivesFrom, SendsBy, SendsTo, TakesDatagram, Wants, WantsIn, WritesInC, bind_result, data_place, event_named, head_in_c, name_result, no_data, no_head, permit_result, token_in_c, value_place, wake_shown, with_client};
 ghost use Rattle.stun_types_c.specs.AllocationHandles.{held_client};
 
 use crate::address::Address;
@@ -26,9 +26,9 @@ use stun_endpoints::Endpoint;
 use stun_types::message::{StunWriteError, TransactionId};
 use turn_attrs::attribute_types::DATA;
 use turn_attrs::{ChannelRange, Head};
-use turn_client::{NameError, PeerData};
+use turn_client::{NameError, PeerData, PeerError, Received};
 
-/// Data of a peer that a client received.
+/// What a client received: data of a peer, an ICMP error, or the token of a reservation.
 #[repr(C)]
 #[derive(Clone, Copy, Drop)]
 pub struct CAllocationData {
@@ -38,8 +38,18 @@ pub struct CAllocationData {
     pub length: usize,
     /// The peer.
     pub peer: Address,
-    /// 1: there is data.
+    /// 1: there is data; 2: an ICMP error; 3: a token.
     pub shown: u32,
+    /// The token of the reservation.
+    pub token: u64,
+    /// The data of the ICMP message.
+    pub icmp_data: u32,
+    /// Its type.
+    pub icmp_type: u8,
+    /// Its code.
+    pub icmp_code: u8,
+    /// 0.
+    pub reserved: u16,
 }
 
 /// What is around data for a peer.
@@ -62,6 +72,11 @@ const NO_DATA: CAllocationData = CAllocationData {
     length: 0,
     peer: NOWHERE,
     shown: 0,
+    token: 0,
+    icmp_data: 0,
+    icmp_type: 0,
+    icmp_code: 0,
+    reserved: 0,
 };
 
 /// Nothing is sent.
@@ -196,17 +211,64 @@ fn data_is_at_its_place(datagram: &[u8])
 {}
 
 /// Data, in C's form.
-fn data_in_c(datagram: &[u8], shown: Option<PeerData<'_>>) -> CAllocationData
-    ensures { MatchOption shown.entry (result ≡ no_data)
-        (λ given. IsPlaced given.peer given.data.now datagram.now result) }
+fn data_in_c(datagram: &[u8], shown: PeerData<'_>) -> CAllocationData
+    ensures { IsPlaced shown.entry.peer shown.entry.data.now datagram.now result }
 {
-    match shown {
-        Some(shown) => CAllocationData {
-            at: data_place(datagram),
-            length: shown.data.len(),
-            peer: address_of(shown.peer),
-            shown: 1,
-        },
+    CAllocationData {
+        at: data_place(datagram),
+        length: shown.data.len(),
+        peer: address_of(shown.peer),
+        shown: 1,
+        token: 0,
+        icmp_data: 0,
+        icmp_type: 0,
+        icmp_code: 0,
+        reserved: 0,
+    }
+}
+
+/// An ICMP error, in C's form.
+fn error_in_c(failed: PeerError) -> CAllocationData
+    ensures { IsFailed failed result }
+{
+    CAllocationData {
+        at: 0,
+        length: 0,
+        peer: address_of(failed.peer),
+        shown: 2,
+        token: 0,
+        icmp_data: failed.error.data,
+        icmp_type: failed.error.icmp_type,
+        icmp_code: failed.error.code,
+        reserved: 0,
+    }
+}
+
+/// A token, in C's form.
+fn token_in_c(token: u64) -> CAllocationData
+    ensures { result ≡ token_in_c token }
+{
+    CAllocationData {
+        at: 0,
+        length: 0,
+        peer: NOWHERE,
+        shown: 3,
+        token,
+        icmp_data: 0,
+        icmp_type: 0,
+        icmp_code: 0,
+        reserved: 0,
+    }
+}
+
+/// What was received, in C's form.
+fn received_in_c(datagram: &[u8], received: Option<Received<'_>>) -> CAllocationData
+    ensures { IsReceived received.entry datagram.now result }
+{
+    match received {
+        Some(Received::Data(shown)) => data_in_c(datagram, shown),
+        Some(Received::Failed(failed)) => error_in_c(failed),
+        Some(Received::Reservation(token)) => token_in_c(token),
         None => NO_DATA,
     }
 }
@@ -226,8 +288,8 @@ fn receive(
 {
     data_is_at_its_place(datagram);
     match core.client.on_datagram(alloc, now, from, datagram) {
-        Ok(shown) => {
-            *out = data_in_c(datagram, shown);
+        Ok(received) => {
+            *out = received_in_c(datagram, received);
             plain(codes::OK)
         }
         Err(error) => write_result(error),
