@@ -73,7 +73,10 @@ class Row:
     """A row: what is asked, and by hand what is answered."""
 
     def __init__(self, name, section, choice, settings="udp:-:-", by=BY_SHA256):
-        transport, family, seconds, *_ = settings.split(":")
+        transport, family, seconds, *options = settings.split(":")
+        tokens = [bytes.fromhex(it.removeprefix("token-")) for it in options if it.startswith("token-")]
+        self.port = next(iter(tokens), next((it for it in options if it in spoken.EVEN), None))
+        self.whole = "whole" in options
         self.head, self.settings, self.by, self.login = (name, section, choice), settings, by, None
         self.is_stream, self.family = transport == "tcp", None if family == "-" else family
         self.seconds = None if seconds == "-" else int(seconds)
@@ -133,7 +136,7 @@ class Row:
         if kind in ("allocate", "refresh"):
             content = {"seconds": self.seconds, **content}
         if kind == "allocate":
-            content["family"] = self.family
+            content = {**content, "family": self.family, "port": self.port, "whole": self.whole}
         if "peer" in content:
             content["peers"] = [content.pop("peer")]
         octets = spoken.request(kind, order.to_bytes(12), login, **content)
@@ -283,6 +286,10 @@ class Row:
 
 def error_value(code):
     return bytes([0, 0, code // 100, code % 100]) + REASONS.get(code, "").encode()
+
+
+def reports(endpoint, kind, code, data):
+    return f"icmp:{address_word(endpoint)}:{kind}:{code}:{data}"
 
 
 def shows(endpoint, data):
