@@ -25,6 +25,7 @@ mod sending;
 mod session;
 mod understood;
 mod values;
+mod whole;
 mod writing;
 
 pub use judged::Judged;
