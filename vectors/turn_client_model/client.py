@@ -35,7 +35,7 @@ RULES = {
     # of a peer
     "mismatch": "8.3", "channel-refused": "12.3", "several-refused": "10.2", "peer-refused": "10.3", "permitted": "10.3", "bound": "12.3",
     # data
-    "not-allocated": "11.1", "over": "6", "sent-on-a-channel": "12.5", "sent": "11.1", "not-permitted": "9",
+    "not-allocated": "11.1", "over": "6", "sent-on-a-channel": "12.5", "sent": "11.1", "sent-whole": "11.1", "not-permitted": "9",
     "shown": "11.4", "shown-on-a-channel": "12.6", "shown-early": "12", "data-not-permitted": "11.4",
     "error-shown": "11.6", "error-not-permitted": "11.6",
     "channel-unbound": "12.6", "unfit-data": "11.4", "cut-channel-data": "12.6",
@@ -368,17 +368,19 @@ class Client:
 
     # ---- data of the user
 
-    def send(self, endpoint, data):
+    def send(self, endpoint, data, whole=False):
         if self.phase != "allocated":
             return self.say("not-allocated", "dropped")
         if self.now >= self.expires:
             return self.say("over", "dropped")
         peer = self.peer(endpoint)
-        if peer and peer.permits(endpoint[0], self.now) and self.now + MARGIN < peer.bound_until:
+        is_bound = peer and peer.permits(endpoint[0], self.now) and self.now + MARGIN < peer.bound_until
+        # (ChannelData has no DONT-FRAGMENT)
+        if is_bound and not whole:
             octets = spoken.channel_data(peer.number, data, self.settings.transport == "tcp")
             return self.say("sent-on-a-channel", f"to-server:{octets.hex()}")
         if any(it.permits(endpoint[0], self.now) for it in self.peers):
-            return self.say("sent", f"to-server:{spoken.send_indication(endpoint, data).hex()}")
+            return self.say("sent-whole" if whole else "sent", f"to-server:{spoken.send_indication(endpoint, data, whole).hex()}")
         return self.say("not-permitted", "dropped")
 
     # ---- a datagram

@@ -80,8 +80,9 @@ def request(kind, identity, login, seconds=None, family=None, peers=(), number=N
     return wire.signed(octets, login.key(), login.hash_name()) if login else octets
 
 
-def send_indication(peer, data):
-    return message("indication", "send", SEND_IDENTITY, [(wire.PEER, wire.xor_address(SEND_IDENTITY, peer)), (wire.DATA, data)])
+def send_indication(peer, data, whole=False):
+    mark = [(wire.DONT_FRAGMENT, b"")] * whole
+    return message("indication", "send", SEND_IDENTITY, [*mark, (wire.PEER, wire.xor_address(SEND_IDENTITY, peer)), (wire.DATA, data)])
 
 
 def channel_data(number, data, is_stream=False):

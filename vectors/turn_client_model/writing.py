@@ -124,6 +124,9 @@ class Row:
     def send(self, endpoint, data, *words):
         return self.event(words or ["dropped"], "send", address_word(endpoint), data.hex() or "-")
 
+    def send_whole(self, endpoint, data, *words):
+        return self.event(words or ["dropped"], "send-whole", address_word(endpoint), data.hex() or "-")
+
     def take(self, name, *words, source=SERVER_WORD):
         """A datagram with octets of this name."""
         return self.event(words, "from", source, name)
@@ -265,9 +268,9 @@ class Row:
 
     # ---- data
 
-    def to_peer(self, endpoint, data, name="send"):
+    def to_peer(self, endpoint, data, name="send", whole=False):
         """The word for a Send indication."""
-        return f"to-server:{named(name, spoken.send_indication(endpoint, data))}"
+        return f"to-server:{named(name, spoken.send_indication(endpoint, data, whole))}"
 
     def on_channel(self, number, data, name="channel-data"):
         """The word for a ChannelData message."""

@@ -1,5 +1,5 @@
 -- What a TURN client is asked for, what it receives and what it sends, as C sees it.
-use Rattle.std.specs.Prelude.{◌≡◌, ◌⊎◌, ℕ, ◌+◌, true, List, [], ◌∷◌, length, slice_range, Option, None, Some, Result, Ok, Err, ◌||◌, MatchOption, IsSomeAnd, unwrap_or, max, ◌==◌, if◌then◌else◌}
+use Rattle.std.specs.Prelude.{◌≡◌, ◌⊎◌, ℕ, ◌+◌, Bool, true, false, List, [], ◌∷◌, length, slice_range, Option, None, Some, Result, Ok, Err, ◌||◌, MatchOption, IsSomeAnd, unwrap_or, max, ◌==◌, if◌then◌else◌}
 use Rattle.std.specs.List.{list_any}
 use Rattle.std.specs.Option.{option_map}
 use Rattle.stun_grammar.specs.declared.error.StunWriteError.{StunWriteError}
@@ -252,19 +252,26 @@ abbrev pub IsHeadInC : Result (Option Head) StunWriteError → CResult → CAllo
 IsHeadInC (Ok head) result around = (result ≡ plain OK) × (around ≡ head_in_c head)
 IsHeadInC (Err e) result around = (result ≡ write_result e) × (around ≡ no_head)
 
+-- what is written around n bytes of data with this output, with DONT-FRAGMENT or without it
+abbrev pub SentAs : (whole : Bool) → Client → (id n : ℕ) → (peer : Endpoint) → Output → (old new : List ℕ)
+    → Result (Option Head) StunWriteError → Type 0
+SentAs true client id n peer output old new head =
+    sending.SendsWhole client id peer n output old new head
+SentAs false client id n peer output old new head = sending.Sends client id n output old new head
+
 -- what is written around n bytes of data, whatever they are, as `TurnClient` does
-pub record SendsBy (core : AllocationCore) (now id n : ℕ) (peer : Endpoint) (result : CResult) (old new : List ℕ)
+pub record SendsBy (whole : Bool) (core : AllocationCore) (now id n : ℕ) (peer : Endpoint) (result : CResult) (old new : List ℕ)
     (around : CAllocationHead) (kept : AllocationCore) : Type 0 where
   pub same : kept.changes ≡ core.changes
   pub passed : (bytes : List ℕ) → kept.client ≡ passes now 0 (sends peer bytes) core.client
   pub head : Result (Option Head) StunWriteError
-  pub sends_are : (bytes : List ℕ) → sending.Sends core.client id n
+  pub sends_are : (bytes : List ℕ) → SentAs whole core.client id n peer
       (output_at now 0 (sends peer bytes) core.client.held) old new head
   pub in_c : IsHeadInC head result around
 
-abbrev pub SendsTo : (now n : ℕ) → (peer : Address) → Id → CResult → HeadLeft → HeadLeft → Type 0
-SendsTo now n peer id result old new =
+abbrev pub SendsTo : (whole : Bool) → (now n : ℕ) → (peer : Address) → Id → CResult → HeadLeft → HeadLeft → Type 0
+SendsTo whole now n peer id result old new =
     MatchOption (endpoint_named peer) (Refuses (plain BAD_ARGUMENT) result old new)
     (λ address. MatchOption old.core (Refuses (plain BAD_ARGUMENT) result old new)
     (λ core. IsSomeAnd new.core
-    (SendsBy core now (number id.bytes) n address result old.slice new.slice new.around)))
+    (SendsBy whole core now (number id.bytes) n address result old.slice new.slice new.around)))

@@ -1,13 +1,13 @@
 //! What a TURN client is asked for, what it receives, and what it sends.
 
-ghost use Rattle.std.specs.Prelude.{◌≡◌, ◌+◌, ℕ, List, length, slice_range, Some};
+ghost use Rattle.std.specs.Prelude.{◌≡◌, ◌+◌, ℕ, true, false, List, length, slice_range, Some};
 ghost use Rattle.stun_endpoints.specs.declared.endpoints.Endpoint.{Endpoint};
 ghost use Rattle.turn_client_machine.specs.Events.{allocates, binds, closes, drops, permits, polls, sends, shows};
 ghost use Rattle.turn_client_state.specs.States.{output_at};
 ghost use Rattle.turn_client_state.specs.Waking.{wake};
 ghost use Rattle.turn_client.specs.Clients.{Client, passes};
 ghost use Rattle.turn_client.specs.Receiving.{event_at};
-ghost use Rattle.stun_types_c.specs.AllocationCalls.{DataLeft, HeadLeft, IsFailed, IsHeadInC, IsPlaced, IsReceived, IsWritten, PollLeft, PollsClient, ReceivesFrom, SendsBy, SendsTo, TakesDatagram, Wants, WantsIn, WritesInC, bind_result, data_place, event_named, head_in_c, name_result, no_data, no_head, permit_result, token_in_c, value_place, wake_shown, with_client};
+ghost use Rattle.stun_types_c.specs.AllocationCalls.{DataLeft, HeadLeft, IsFailed, IsHeadInC, IsPlaced, IsReceived, IsWritten, PollLeft, PollsClient, ReceivesFrom, SendsBy, SendsTo, SentAs, TakesDatagram, Wants, WantsIn, WritesInC, bind_result, data_place, event_named, head_in_c, name_result, no_data, no_head, permit_result, token_in_c, value_place, wake_shown, with_client};
 ghost use Rattle.stun_types_c.specs.AllocationHandles.{held_client};
 
 use crate::address::Address;
@@ -26,7 +26,7 @@ use stun_endpoints::Endpoint;
 use stun_types::message::{StunWriteError, TransactionId};
 use turn_attrs::attribute_types::DATA;
 use turn_attrs::{ChannelRange, Head};
-use turn_client::{NameError, PeerData, PeerError, Received};
+use turn_client::{NameError, PeerData, PeerError, Received, TurnClient};
 
 /// What a client received: data of a peer, an ICMP error, or the token of a reservation.
 #[repr(C)]
@@ -423,9 +423,30 @@ fn written_in_c(
     }
 }
 
+/// What `TurnClient` writes before data, with DONT-FRAGMENT or without it.
+fn head_of(
+    client: &mut TurnClient,
+    whole: bool,
+    now: u64,
+    peer: Endpoint,
+    data_length: usize,
+    id: TransactionId,
+    head: &mut [u8],
+) -> Result<Option<Head>, StunWriteError>
+    ensures state { (bytes : List ℕ) → client.new ≡ passes now 0 (sends peer bytes) client.old }
+    ensures head { (bytes : List ℕ) → SentAs whole client.old id data_length peer
+        (output_at now 0 (sends peer bytes) client.old.held) head.old head.new result }
+{
+    if whole {
+        return client.send_whole(now, peer, data_length, id, head);
+    }
+    client.send(now, peer, data_length, id, head)
+}
+
 /// Writes what comes before data for a peer.
 fn send(
     core: &mut AllocationCore,
+    whole: bool,
     now: u64,
     peer: Endpoint,
     data_length: usize,
@@ -433,10 +454,39 @@ fn send(
     head: &mut [u8],
     around: &mut CAllocationHead,
 ) -> CResult
-    ensures { SendsBy core.old now id data_length peer result head.old head.new around.new core.new }
+    ensures { SendsBy whole core.old now id data_length peer result head.old head.new around.new core.new }
 {
-    let written = core.client.send(now, peer, data_length, id, head);
+    let written = head_of(&mut core.client, whole, now, peer, data_length, id, head);
     written_in_c(written, around)
+}
+
+/// Writes what comes before data for a peer, if the data may be sent.
+fn send_to(
+    alloc: Global,
+    client: &mut CAllocation,
+    whole: bool,
+    now: u64,
+    data_length: usize,
+    peer: &Address,
+    id: &Id,
+    head: &mut [u8],
+    around: &mut CAllocationHead,
+) -> CResult
+    ensures { SendsTo whole now data_length peer.now id.now result
+        (record { core = held_client client.old; slice = head.old; around = no_head })
+        (record { core = held_client client.new; slice = head.new; around = around.new }) }
+{
+    *around = NO_HEAD;
+    let Some(peer) = endpoint_in(peer) else {
+        return plain(codes::BAD_ARGUMENT);
+    };
+    let Some(mut core) = take(client, alloc) else {
+        return plain(codes::BAD_ARGUMENT);
+    };
+    let id = TransactionId::from_bytes(&id.bytes);
+    let result = send(&mut core, whole, now, peer, data_length, id, head, around);
+    put(client, core);
+    result
 }
 
 /// Writes what comes before data for a peer, if the data may be sent.
@@ -451,19 +501,48 @@ pub extern "C" fn stun_types_allocation_send(
     head: &mut [u8],
     around: &mut CAllocationHead,
 ) -> CResult
-    ensures { SendsTo now data_length peer.now id.now result
+    ensures { SendsTo false now data_length peer.now id.now result
         (record { core = held_client client.old; slice = head.old; around = no_head })
         (record { core = held_client client.new; slice = head.new; around = around.new }) }
 {
-    *around = NO_HEAD;
-    let Some(peer) = endpoint_in(peer) else {
-        return plain(codes::BAD_ARGUMENT);
-    };
-    let Some(mut core) = take(client, alloc) else {
-        return plain(codes::BAD_ARGUMENT);
-    };
-    let id = TransactionId::from_bytes(&id.bytes);
-    let result = send(&mut core, now, peer, data_length, id, head, around);
-    put(client, core);
-    result
+    send_to(
+        alloc,
+        client,
+        false,
+        now,
+        data_length,
+        peer,
+        id,
+        head,
+        around,
+    )
+}
+
+/// Writes what comes before data for a peer that is sent with the DF bit set, if the data may be sent.
+#[unsafe(no_mangle)]
+pub extern "C" fn stun_types_allocation_send_whole(
+    alloc: Global,
+    client: &mut CAllocation,
+    now: u64,
+    data_length: usize,
+    peer: &Address,
+    id: &Id,
+    head: &mut [u8],
+    around: &mut CAllocationHead,
+) -> CResult
+    ensures { SendsTo true now data_length peer.now id.now result
+        (record { core = held_client client.old; slice = head.old; around = no_head })
+        (record { core = held_client client.new; slice = head.new; around = around.new }) }
+{
+    send_to(
+        alloc,
+        client,
+        true,
+        now,
+        data_length,
+        peer,
+        id,
+        head,
+        around,
+    )
 }
