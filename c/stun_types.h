@@ -1652,13 +1652,30 @@ typedef struct {
     uint32_t named;                 /* the most peers that one CreatePermission request names, at most 16;
                                        0: 8. A request that names several is sent once: if no response
                                        comes by the first wait, or an error, each peer is asked for alone */
-    uint32_t reserved;
+    uint16_t port;                  /* of the relayed address (section 7.1), a stun_types_allocation_port; 0:
+                                       any. A server that has no such port rejects the client with 508, and
+                                       one that doesn't know EVEN-PORT with 420 */
+    uint16_t dont_fragment;         /* not 0: Allocate requests have a DONT-FRAGMENT, so that
+                                       stun_types_allocation_send_whole may be called. A server that can't
+                                       set the DF bit rejects the client with 420 */
+    uint64_t token;                 /* with STUN_TYPES_ALLOCATION_PORT_RESERVED the token of the reservation,
+                                       as stun_types_allocation_datagram reported it to another client of
+                                       this user and server; otherwise 0. family is that of the reserved
+                                       address then, and requests don't name it */
 } stun_types_allocation_settings;
+
+/* Which port a relayed address is to have (RFC 8656, section 7.1). */
+typedef STUN_TYPES_ENUM(stun_types_allocation_port) {
+    STUN_TYPES_ALLOCATION_PORT_ANY = 0,     /* any */
+    STUN_TYPES_ALLOCATION_PORT_EVEN = 1,    /* an even one (EVEN-PORT) */
+    STUN_TYPES_ALLOCATION_PORT_PAIR = 2,    /* an even one, and the server reserves the next-higher one */
+    STUN_TYPES_ALLOCATION_PORT_RESERVED = 3 /* the one that a token reserves (RESERVATION-TOKEN) */
+} stun_types_allocation_port;
 
 /* Makes a client that hasn't asked for anything. It keeps copies of all that it is given, and takes memory
    for all its peers, some 400 bytes for each.
-   BAD_ARGUMENT: a number of the settings, the family of server among them, or no byte of password.
-   TOO_LARGE: user has more than 508 bytes. INVALID_DATA: user or password isn't UTF-8. INVALID_DATA,
+   BAD_ARGUMENT: a number of the settings, the family of server among them, a token with another port, or no
+   byte of password. TOO_LARGE: user has more than 508 bytes. INVALID_DATA: user or password isn't UTF-8. INVALID_DATA,
    TOO_LARGE: the software isn't UTF-8, or has more than 763 bytes. Allocates: OUT_OF_MEMORY. If the call
    fails, the client stays as it was. */
 STUN_TYPES_NODISCARD STUN_TYPES_NONNULL((1, 2))
@@ -1696,17 +1713,33 @@ stun_types_answer stun_types_allocation_want(stun_types_allocation *client, uint
                                              stun_types_allocation_wish wish,
                                              const stun_types_address *peer);
 
-/* The data of a peer. */
+/* What a datagram brings to the user. */
+typedef STUN_TYPES_ENUM(stun_types_allocation_news) {
+    STUN_TYPES_ALLOCATION_NO_NEWS = 0,
+    STUN_TYPES_ALLOCATION_DATA = 1, /* data of a peer: at, length, peer */
+    STUN_TYPES_ALLOCATION_ICMP = 2, /* the server has received an ICMP error about a packet to a peer (RFC 8656,
+                                       section 11.6): peer, whose port is 0 if the server doesn't know it,
+                                       icmp_type, icmp_code, icmp_data. It isn't signed */
+    STUN_TYPES_ALLOCATION_TOKEN = 3 /* the allocation has come, and the server has reserved the next-higher
+                                       port, for 30 seconds or longer: token */
+} stun_types_allocation_news;
+
+/* It; the other members are 0. */
 typedef struct {
-    size_t at, length;       /* it is datagram[at .. at + length) */
+    size_t at, length;       /* the data is datagram[at .. at + length) */
     stun_types_address peer;
-    uint32_t shown;          /* 1: there is data; 0: there is none, and the others are 0 */
+    stun_types_allocation_news shown;
+    uint64_t token;          /* for the settings of another client */
+    uint32_t icmp_data;      /* the MTU of the next hop if the packet was too long, otherwise 0 */
+    uint8_t icmp_type, icmp_code;
+    uint16_t reserved;
 } stun_types_allocation_data;
 
 /* Takes a datagram that came from this address, or a message that stun_types_stream_push completed
    (STUN_TYPES_STREAM_CHANNEL_DATA). Data is shown if it came from the server, in a Data indication while
    the server permits the peer's IP address, or on the channel of that very peer (RFC 8656, sections 11.4
-   and 12.6). Anything else that the client doesn't wait for is ignored.
+   and 12.6), and an ICMP error while the server permits the peer's IP address. Anything else that the client
+   doesn't wait for is ignored.
    BAD_ARGUMENT, and nothing has changed: there is no client, or the family of from is neither 4 nor 6.
    Allocates for a challenge of the server alone: OUT_OF_MEMORY, and the datagram is lost. */
 STUN_TYPES_NODISCARD STUN_TYPES_NONNULL((1, 3, 6))
@@ -1735,11 +1768,11 @@ typedef struct {
     uint32_t reserved;
 } stun_types_allocation_head;
 
-#define STUN_TYPES_ALLOCATION_HEAD 48
+#define STUN_TYPES_ALLOCATION_HEAD 52
 
 /* Writes what comes before data_length bytes of data to a peer, at the end of head, which has size bytes.
-   STUN_TYPES_ALLOCATION_HEAD bytes have room for any: so keep the data at buffer + 48, and pass buffer and
-   48. The data is neither read nor moved. id: random; the transaction ID of a Send indication. The data may
+   STUN_TYPES_ALLOCATION_HEAD bytes have room for any: so keep the data at buffer + 52, and pass buffer and
+   52. The data is neither read nor moved. id: random; the transaction ID of a Send indication. The data may
    be sent if the allocation and a permission for the peer's IP address are granted, and haven't expired
    (RFC 8656, sections 11.1 and 12.5).
    BAD_ARGUMENT, and nothing has changed: there is no client, or the family of peer is neither 4 nor 6.
@@ -1751,6 +1784,15 @@ stun_types_answer stun_types_allocation_send(stun_types_allocation *client, uint
                                              size_t data_length, const stun_types_address *peer,
                                              const stun_types_id *id, uint8_t *head, size_t size,
                                              stun_types_allocation_head *around);
+
+/* The same for data that the server sends with the DF bit set (section 18.9): in a Send indication with
+   DONT-FRAGMENT, also to a peer with a channel. The settings have to ask for dont_fragment: a server that can't
+   set the bit drops such indications. The lengths of TOO_LARGE are without the four bytes of DONT-FRAGMENT. */
+STUN_TYPES_NODISCARD STUN_TYPES_NONNULL((1, 4, 5, 8))
+stun_types_answer stun_types_allocation_send_whole(stun_types_allocation *client, uint64_t now,
+                                                   size_t data_length, const stun_types_address *peer,
+                                                   const stun_types_id *id, uint8_t *head, size_t size,
+                                                   stun_types_allocation_head *around);
 
 typedef STUN_TYPES_ENUM(stun_types_allocation_change_kind) {
     STUN_TYPES_ALLOCATION_UNCHANGED = 0,
@@ -2220,7 +2262,9 @@ STUN_TYPES_LAYOUT(end_size, sizeof(stun_types_end) == 4);
 STUN_TYPES_LAYOUT(received_kind_size, sizeof(stun_types_received_kind) == 4);
 STUN_TYPES_LAYOUT(stream_kind_size, sizeof(stun_types_stream_kind) == 4);
 STUN_TYPES_LAYOUT(turn_kind_size, sizeof(stun_types_turn_kind) == 4);
+STUN_TYPES_LAYOUT(allocation_port_size, sizeof(stun_types_allocation_port) == 4);
 STUN_TYPES_LAYOUT(allocation_wish_size, sizeof(stun_types_allocation_wish) == 4);
+STUN_TYPES_LAYOUT(allocation_news_size, sizeof(stun_types_allocation_news) == 4);
 STUN_TYPES_LAYOUT(allocation_change_kind_size, sizeof(stun_types_allocation_change_kind) == 4);
 STUN_TYPES_LAYOUT(allocation_end_size, sizeof(stun_types_allocation_end) == 4);
 STUN_TYPES_LAYOUT(ice_role_size, sizeof(stun_types_ice_role) == 4);
@@ -2460,7 +2504,7 @@ STUN_TYPES_LAYOUT(flow_peer, offsetof(stun_types_flow, peer) == 16);
 STUN_TYPES_LAYOUT(allocation_size, sizeof(stun_types_allocation) == 16);
 STUN_TYPES_LAYOUT(allocation_at, offsetof(stun_types_allocation, at) == 0);
 STUN_TYPES_LAYOUT(allocation_held, offsetof(stun_types_allocation, held) == 8);
-STUN_TYPES_LAYOUT(allocation_settings_size, sizeof(stun_types_allocation_settings) == 112);
+STUN_TYPES_LAYOUT(allocation_settings_size, sizeof(stun_types_allocation_settings) == 120);
 STUN_TYPES_LAYOUT(allocation_settings_server, offsetof(stun_types_allocation_settings, server) == 0);
 STUN_TYPES_LAYOUT(allocation_settings_transport, offsetof(stun_types_allocation_settings, transport) == 20);
 STUN_TYPES_LAYOUT(allocation_settings_user, offsetof(stun_types_allocation_settings, user) == 24);
@@ -2479,12 +2523,19 @@ STUN_TYPES_LAYOUT(allocation_settings_algorithm, offsetof(stun_types_allocation_
 STUN_TYPES_LAYOUT(allocation_settings_family, offsetof(stun_types_allocation_settings, family) == 100);
 STUN_TYPES_LAYOUT(allocation_settings_fingerprint, offsetof(stun_types_allocation_settings, fingerprint) == 102);
 STUN_TYPES_LAYOUT(allocation_settings_named, offsetof(stun_types_allocation_settings, named) == 104);
-STUN_TYPES_LAYOUT(allocation_settings_reserved, offsetof(stun_types_allocation_settings, reserved) == 108);
-STUN_TYPES_LAYOUT(allocation_data_size, sizeof(stun_types_allocation_data) == 40);
+STUN_TYPES_LAYOUT(allocation_settings_port, offsetof(stun_types_allocation_settings, port) == 108);
+STUN_TYPES_LAYOUT(allocation_settings_dont_fragment, offsetof(stun_types_allocation_settings, dont_fragment) == 110);
+STUN_TYPES_LAYOUT(allocation_settings_token, offsetof(stun_types_allocation_settings, token) == 112);
+STUN_TYPES_LAYOUT(allocation_data_size, sizeof(stun_types_allocation_data) == 56);
 STUN_TYPES_LAYOUT(allocation_data_at, offsetof(stun_types_allocation_data, at) == 0);
 STUN_TYPES_LAYOUT(allocation_data_length, offsetof(stun_types_allocation_data, length) == 8);
 STUN_TYPES_LAYOUT(allocation_data_peer, offsetof(stun_types_allocation_data, peer) == 16);
 STUN_TYPES_LAYOUT(allocation_data_shown, offsetof(stun_types_allocation_data, shown) == 36);
+STUN_TYPES_LAYOUT(allocation_data_token, offsetof(stun_types_allocation_data, token) == 40);
+STUN_TYPES_LAYOUT(allocation_data_icmp_data, offsetof(stun_types_allocation_data, icmp_data) == 48);
+STUN_TYPES_LAYOUT(allocation_data_icmp_type, offsetof(stun_types_allocation_data, icmp_type) == 52);
+STUN_TYPES_LAYOUT(allocation_data_icmp_code, offsetof(stun_types_allocation_data, icmp_code) == 53);
+STUN_TYPES_LAYOUT(allocation_data_reserved, offsetof(stun_types_allocation_data, reserved) == 54);
 STUN_TYPES_LAYOUT(allocation_head_size, sizeof(stun_types_allocation_head) == 24);
 STUN_TYPES_LAYOUT(allocation_head_length, offsetof(stun_types_allocation_head, length) == 0);
 STUN_TYPES_LAYOUT(allocation_head_padding, offsetof(stun_types_allocation_head, padding) == 8);

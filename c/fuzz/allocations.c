@@ -7,7 +7,8 @@ enum { ROOM_MOST = 2500, STEPS = 24 };
 
 /* Whether the numbers of settings are in their ranges. */
 static bool are_numbers(const stun_types_allocation_settings *it) {
-    return it->reserved == 0 && (it->server.family == 4 || it->server.family == 6)
+    const bool is_token = it->port == STUN_TYPES_ALLOCATION_PORT_RESERVED;
+    return it->port <= 3 && (is_token || it->token == 0) && (it->server.family == 4 || it->server.family == 6)
         && (it->transport == STUN_TYPES_UDP || it->transport == STUN_TYPES_TCP) && it->peers <= 4096
         && it->named <= 16 && it->sends <= 255 && it->retries <= 255 && it->algorithm <= 2
         && (it->family == 0 || it->family == 4 || it->family == 6);
@@ -51,7 +52,9 @@ static stun_types_allocation_settings *take_settings(source *from) {
     it->family = (uint16_t)(take(from) % 8);
     it->fingerprint = (uint16_t)(take(from) % 2);
     it->named = take_below(from, 18, 16);
-    it->reserved = take(from) == 0;
+    it->port = (uint16_t)(take(from) % 5);
+    it->dont_fragment = (uint16_t)(take(from) % 2);
+    it->token = it->port == 3 || take(from) == 0 ? take(from) : 0;
     return it;
 }
 
@@ -90,8 +93,12 @@ static void check_datagram(session *it) {
     const stun_types_answer answer
         = stun_types_allocation_datagram(it->client, it->now, from, bytes, given, data);
     HOLDS(is_same(answer, from->family == 4 || from->family == 6 ? FINE : BAD_ARGUMENT));
-    HOLDS(data->shown <= 1 && data->at <= given && data->length <= given - data->at);
-    if (data->shown == 0) HOLDS(data->at == 0 && data->length == 0 && data->peer.family == 0);
+    HOLDS(data->shown <= 3 && data->at <= given && data->length <= given - data->at && data->reserved == 0);
+    if (data->shown != STUN_TYPES_ALLOCATION_DATA) HOLDS(data->at == 0 && data->length == 0);
+    if (data->shown != STUN_TYPES_ALLOCATION_TOKEN) HOLDS(data->token == 0);
+    if (data->shown != STUN_TYPES_ALLOCATION_ICMP)
+        HOLDS(data->icmp_type == 0 && data->icmp_code == 0 && data->icmp_data == 0);
+    HOLDS((data->peer.family != 0) == (data->shown == 1 || data->shown == 2));
 }
 
 static void check_poll(session *it) {
@@ -114,12 +121,15 @@ static void check_poll(session *it) {
 
 static void check_send(session *it) {
     const stun_types_address *peer = take_address(it->from);
-    const size_t size = take(it->from) % 8 == 0 ? take(it->from) % 50 : STUN_TYPES_ALLOCATION_HEAD;
+    const size_t size = take(it->from) % 8 == 0 ? take(it->from) % 54 : STUN_TYPES_ALLOCATION_HEAD;
     uint8_t *head = place(size);
     stun_types_allocation_head *around = NEW(stun_types_allocation_head);
+    const bool is_whole = take(it->from) % 4 == 0;
+    const size_t length = take_below(it->from, 2000, 8);
+    const stun_types_id *id = copy_of(&it->id, sizeof it->id);
     const stun_types_answer answer
-        = stun_types_allocation_send(it->client, it->now, take_below(it->from, 2000, 8), peer,
-                                     copy_of(&it->id, sizeof it->id), head, size, around);
+        = is_whole ? stun_types_allocation_send_whole(it->client, it->now, length, peer, id, head, size, around)
+                   : stun_types_allocation_send(it->client, it->now, length, peer, id, head, size, around);
     if (peer->family != 4 && peer->family != 6) HOLDS(is_same(answer, BAD_ARGUMENT));
     HOLDS(around->sends <= 1 && around->length <= size && around->padding <= 3);
     HOLDS(around->sends == 1 || (around->length == 0 && around->padding == 0));

@@ -215,7 +215,9 @@ void receive_from_relay(void) {
         }
         is_heard = true;
         take_changes();
-        if (shown.shown) take_datagram(RELAY, &shown.peer, response.bytes + shown.at, shown.length);
+        if (shown.shown == STUN_TYPES_ALLOCATION_DATA) {
+            take_datagram(RELAY, &shown.peer, response.bytes + shown.at, shown.length);
+        }
     }
 }
 

@@ -20,6 +20,10 @@ static const char help[] =
     "  -r, --receive SECONDS     wait so long for a datagram of each peer\n"
     "  -H, --hold SECONDS        keep the allocation so long, up to a week\n"
     "  -l, --lifetime SECONDS    ask for this lifetime, 1 to 3600; otherwise 600\n"
+    "  -e, --even-port           ask for an even port\n"
+    "  -P, --port-pair           the same, and have the server reserve the next one: prints its token\n"
+    "  -R, --reservation TOKEN   ask for the port that this token reserves\n"
+    "  -D, --dont-fragment       have the server set the DF bit in what goes to peers\n"
     "  -4, -6                    ask the server over IPv4, or over IPv6, alone\n"
     "  -t, --tcp                 ask the server over TCP\n"
     "  -w, --wait SECONDS        wait so long for a response, 1 to 3600; otherwise 40 s\n"
@@ -37,6 +41,10 @@ static const struct option words[] = {COMMON_WORDS,
                                       {"receive", required_argument, NULL, 'r'},
                                       {"hold", required_argument, NULL, 'H'},
                                       {"lifetime", required_argument, NULL, 'l'},
+                                      {"even-port", no_argument, NULL, 'e'},
+                                      {"port-pair", no_argument, NULL, 'P'},
+                                      {"reservation", required_argument, NULL, 'R'},
+                                      {"dont-fragment", no_argument, NULL, 'D'},
                                       {NULL, 0, NULL, 0}};
 
 enum { MOST_PEERS = 32, MOST_HOLD = 604800, KEPT = 60000 };
@@ -59,6 +67,9 @@ static size_t peer_count;
 static const char *data = "hello";
 static uint64_t interval, receive_for, hold_for; /* 0: none */
 static uint32_t lifetime = 600;
+static stun_types_allocation_port port = STUN_TYPES_ALLOCATION_PORT_ANY;
+static uint64_t token; /* of a reservation */
+static bool is_whole;  /* the DF bit is to be set */
 
 static stun_types_allocation client = STUN_TYPES_ALLOCATION_INIT;
 static stun_types_allocation_attempt attempt;
@@ -127,6 +138,9 @@ static int begin_client(void) {
     settings.peers = MOST_PEERS;
     settings.family = peer_count > 0 && peers[0].address.family == 6 ? 6 : 0;
     settings.fingerprint = 1;
+    settings.port = (uint16_t)port;
+    settings.token = token;
+    settings.dont_fragment = is_whole;
     stun_types_answer answer = stun_types_allocation_new(&client, &settings);
     attempt.server = settings.server;
     for (size_t i = 0; i < peer_count; i++) {
@@ -257,10 +271,10 @@ static bool send_data(const peer *to) {
     stun_types_allocation_head around;
     stun_types_id id;
     size_t length = strlen(data);
-    if (!new_id(&id) || !is_fine(stun_types_allocation_send(&client, nanoseconds(), length, &to->address,
-                                                            &id, head, HEAD, &around)) || !around.sends) {
-        return false;
-    }
+    if (!new_id(&id)) return false;
+    stun_types_answer answer = (is_whole ? stun_types_allocation_send_whole : stun_types_allocation_send)(
+        &client, nanoseconds(), length, &to->address, &id, head, HEAD, &around);
+    if (!is_fine(answer) || !around.sends) return false;
     memcpy(request.bytes, head + HEAD - around.length, around.length);
     memcpy(request.bytes + around.length, data, length);
     memset(request.bytes + around.length + length, 0, around.padding);
@@ -297,6 +311,21 @@ static void print_data(const stun_types_allocation_data *shown) {
     }
 }
 
+/* Prints what a datagram has brought. */
+static void print_news(const stun_types_allocation_data *shown) {
+    switch (shown->shown) {
+    case STUN_TYPES_ALLOCATION_DATA: print_data(shown); break;
+    case STUN_TYPES_ALLOCATION_ICMP:
+        printf("icmp type %u code %u data %lu of ", (unsigned)shown->icmp_type, (unsigned)shown->icmp_code,
+               (unsigned long)shown->icmp_data);
+        print_address(stdout, &shown->peer);
+        putchar('\n');
+        break;
+    case STUN_TYPES_ALLOCATION_TOKEN: printf("token %016llx\n", (unsigned long long)shown->token); break;
+    default: break;
+    }
+}
+
 /* ---- The loop -------------------------------------------------------------------------------- */
 
 /* After the connection has failed: an address of which nothing came is given up for the next one of the host. A
@@ -329,7 +358,7 @@ static int take_message(void) {
     if (!is_fine(answer)) return fails(answer);
     is_heard = true;
     give_up_at = asked.wait != 0 ? now + asked.wait : NEVER;
-    if (shown.shown) print_data(&shown);
+    print_news(&shown);
     return report_changes(true);
 }
 
@@ -460,6 +489,20 @@ static bool take_peer(const char *value, bool binds) {
     return read_target(value, &taken->name) && taken->name.port[0] != 0;
 }
 
+/* Whether no other port was asked for. */
+static bool ask_for(stun_types_allocation_port asked_for) {
+    if (port != STUN_TYPES_ALLOCATION_PORT_ANY) return false;
+    port = asked_for;
+    return true;
+}
+
+/* Reads the token of a reservation: 16 hexadecimal digits. */
+static bool read_token(const char *text) {
+    if (strlen(text) != 16 || strspn(text, "0123456789abcdefABCDEF") != 16) return false;
+    token = strtoull(text, NULL, 16);
+    return true;
+}
+
 static bool take_own_option(int letter, const char *value) {
     switch (letter) {
     case 'p': return take_peer(value, false);
@@ -469,6 +512,10 @@ static bool take_own_option(int letter, const char *value) {
     case 'r': return read_seconds(value, 3600, &receive_for);
     case 'H': return read_seconds(value, MOST_HOLD, &hold_for);
     case 'l': return read_number(value, 1, 3600, &lifetime);
+    case 'e': return ask_for(STUN_TYPES_ALLOCATION_PORT_EVEN);
+    case 'P': return ask_for(STUN_TYPES_ALLOCATION_PORT_PAIR);
+    case 'R': return read_token(value) && ask_for(STUN_TYPES_ALLOCATION_PORT_RESERVED);
+    case 'D': return is_whole = true;
     default: return take_option(letter, value);
     }
 }
@@ -477,7 +524,7 @@ int main(int count, char **arguments) {
     int letter;
     asked.program = "stun-turn-client";
     asked.carries = STUN_TYPES_STREAM_CHANNEL_DATA;
-    const char *letters = COMMON_LETTERS "p:c:d:i:r:H:l:";
+    const char *letters = COMMON_LETTERS "p:c:d:i:r:H:l:ePR:D";
     while ((letter = getopt_long(count, arguments, letters, words, NULL)) != -1) {
         if (letter == 'h') return print_text(help);
         if (letter == 'V') {

@@ -59,6 +59,9 @@ static void check_no_client(const char *name, uint8_t byte) {
     ANSWERS(stun_types_allocation_send(client, 0, 1, &peer, &id, head, STUN_TYPES_ALLOCATION_HEAD, around),
             PLAIN(STUN_TYPES_BAD_ARGUMENT));
     CHECK(is_untouched(head, STUN_TYPES_ALLOCATION_HEAD) && is_zero(around, sizeof *around));
+    ANSWERS(stun_types_allocation_send_whole(client, 0, 1, &peer, &id, head, STUN_TYPES_ALLOCATION_HEAD, around),
+            PLAIN(STUN_TYPES_BAD_ARGUMENT));
+    CHECK(is_untouched(head, STUN_TYPES_ALLOCATION_HEAD) && is_zero(around, sizeof *around));
     CHECK(!stun_types_allocation_changes(client, change) && is_zero(change, sizeof *change));
     stun_types_allocation_free(client);
     stun_types_allocation_free(NULL);
@@ -94,8 +97,13 @@ static void check_text(const char *name, const void **text_of, size_t *length_of
 
 static void test_settings(void) {
     stun_types_allocation_settings *it;
-    WITH("nothing but what is needed", reserved, 0, OK_ANSWER);
-    WITH("reserved", reserved, 1, WRONG);
+    WITH("nothing but what is needed", port, 0, OK_ANSWER);
+    WITH("an even port", port, STUN_TYPES_ALLOCATION_PORT_EVEN, OK_ANSWER);
+    WITH("a pair of ports", port, STUN_TYPES_ALLOCATION_PORT_PAIR, OK_ANSWER);
+    WITH("a token of zeros", port, STUN_TYPES_ALLOCATION_PORT_RESERVED, OK_ANSWER);
+    WITH("no such port", port, 4, WRONG);
+    WITH("a token with any port", token, 1, WRONG);
+    WITH("the DF bit", dont_fragment, 1, OK_ANSWER);
     WITH("the server's family", server.family, 0, WRONG);
     WITH("no transport", transport, (stun_types_transport)0, WRONG);
     WITH("another transport", transport, (stun_types_transport)3, WRONG);
@@ -116,6 +124,12 @@ static void test_settings(void) {
     WITH("the longest waits", rto, UINT32_MAX, OK_ANSWER);
     WITH("no byte of password", password_length, 0, WRONG);
     WITH("no byte of user", user_length, 0, OK_ANSWER);
+    it = good_settings();
+    it->port = STUN_TYPES_ALLOCATION_PORT_RESERVED;
+    it->token = UINT64_MAX;
+    check_settings("a token", it, OK_ANSWER);
+    it->port = STUN_TYPES_ALLOCATION_PORT_PAIR;
+    check_settings("a token and a pair of ports", it, WRONG);
     it = good_settings();
     check_text("508 bytes of user", &it->user, &it->user_length, hex("41*508"), it, OK_ANSWER);
     it = good_settings();

@@ -306,6 +306,8 @@ static void test_turn_clients(void) {
     CHECK(*length == 0 && *wake == 500000000);
     ANSWERS(stun_types_allocation_send(client, 0, 0, &address, &id, NULL, 0, around), OK_ANSWER);
     CHECK(is_zero(around, sizeof *around));
+    ANSWERS(stun_types_allocation_send_whole(client, 0, 0, &address, &id, NULL, 0, around), OK_ANSWER);
+    CHECK(is_zero(around, sizeof *around));
     heap_allow(false);
     stun_types_allocation_free(client);
     stun_types_allocations_free(NULL, 0);

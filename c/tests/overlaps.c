@@ -174,6 +174,9 @@ CALL(allocation_poll) { REPORT(stun_types_allocation_poll(at[0], 0, at[1], at[2]
 CALL(allocation_send) {
     REPORT(stun_types_allocation_send(at[0], 0, 3, at[1], at[2], at[3], STUN_TYPES_ALLOCATION_HEAD, at[4]));
 }
+CALL(allocation_send_whole) {
+    REPORT(stun_types_allocation_send_whole(at[0], 0, 3, at[1], at[2], at[3], STUN_TYPES_ALLOCATION_HEAD, at[4]));
+}
 CALL(ice_new) { REPORT(stun_types_ice_new(at[0], at[1])); }
 CALL(ice_set_peer) { REPORT(stun_types_ice_set_peer(at[0], 0, at[1], 4, at[2], 22)); }
 CALL(ice_add_base) { REPORT(stun_types_ice_add_base(at[0], 0, at[1])); }
@@ -420,6 +423,9 @@ static const guarded_call calls[] = {
     {"stun_types_allocation_poll", allocation_poll,
      {TURN_CLIENT, BYTES(sizeof(stun_types_id), ""), ROOM(40, ""), LEFT(8, ""), LEFT(8, "")}},
     {"stun_types_allocation_send", allocation_send,
+     {TURN_CLIENT, ADDRESS, BYTES(sizeof(stun_types_id), ""), ROOM(STUN_TYPES_ALLOCATION_HEAD, ""),
+      ZEROED(sizeof(stun_types_allocation_head))}},
+    {"stun_types_allocation_send_whole", allocation_send_whole,
      {TURN_CLIENT, ADDRESS, BYTES(sizeof(stun_types_id), ""), ROOM(STUN_TYPES_ALLOCATION_HEAD, ""),
       ZEROED(sizeof(stun_types_allocation_head))}},
     {"stun_types_allocation_attempt_next", attempt_next,

@@ -31,12 +31,13 @@ RULES = {
     # an error or a success of the allocation
     "unknown-attribute": ":6.3.4", "no-code": ":6.3.4", "incomplete-success": "7.3", "refused": "7.4",
     "elsewhere": ":10", "elsewhere-later": ":10", "allocated": "7.3", "useless": "7.3", "too-short": "8.3",
-    "refreshed": "8.3", "deleted": "8.3", "delete-refused": "8.3",
+    "allocated-with-a-token": "7.3", "refreshed": "8.3", "deleted": "8.3", "delete-refused": "8.3",
     # of a peer
     "mismatch": "8.3", "channel-refused": "12.3", "several-refused": "10.2", "peer-refused": "10.3", "permitted": "10.3", "bound": "12.3",
     # data
-    "not-allocated": "11.1", "over": "6", "sent-on-a-channel": "12.5", "sent": "11.1", "not-permitted": "9",
+    "not-allocated": "11.1", "over": "6", "sent-on-a-channel": "12.5", "sent": "11.1", "sent-whole": "11.1", "not-permitted": "9",
     "shown": "11.4", "shown-on-a-channel": "12.6", "shown-early": "12", "data-not-permitted": "11.4",
+    "error-shown": "11.6", "error-not-permitted": "11.6",
     "channel-unbound": "12.6", "unfit-data": "11.4", "cut-channel-data": "12.6",
 }
 SERVER = bytes([203, 0, 113, 1]), 3478
@@ -74,6 +75,8 @@ class Settings:
     retries: int = 3
     rto: Fraction = Fraction(1, 2)
     supported: tuple = ("md5", "sha256")
+    port: str | bytes | None = None  # an even one, a pair, or that of a token
+    whole: bool = False  # DONT-FRAGMENT is asked for
 
     @staticmethod
     def read(word):
@@ -83,6 +86,12 @@ class Settings:
             name, _, number = option.partition("-")
             if name in spoken.NUMBERS:
                 its.supported = (name,)
+            elif name in spoken.EVEN:
+                its.port = name
+            elif name == "token":
+                its.port = bytes.fromhex(number)
+            elif name == "whole":
+                its.whole = True
             else:
                 setattr(its, name, Fraction(int(number), 1000) if name == "rto" else int(number))
         return its
@@ -305,7 +314,8 @@ class Client:
             kind = {"asking": "allocate", "allocated": "refresh", "closing": "refresh"}[self.phase]
             seconds = 0 if self.phase == "closing" else self.settings.seconds
             family = self.settings.family if kind == "allocate" else None
-            return self.send_request(self.need, kind, seconds=seconds, family=family)
+            wishes = {"port": self.settings.port, "whole": self.settings.whole} if kind == "allocate" else {}
+            return self.send_request(self.need, kind, seconds=seconds, family=family, **wishes)
         if self.phase == "closing":
             return self.end("silent", self.why)
         return self.end("violated", "integrity") if self.need.is_violated else self.end("silent", "silent")
@@ -358,17 +368,19 @@ class Client:
 
     # ---- data of the user
 
-    def send(self, endpoint, data):
+    def send(self, endpoint, data, whole=False):
         if self.phase != "allocated":
             return self.say("not-allocated", "dropped")
         if self.now >= self.expires:
             return self.say("over", "dropped")
         peer = self.peer(endpoint)
-        if peer and peer.permits(endpoint[0], self.now) and self.now + MARGIN < peer.bound_until:
+        is_bound = peer and peer.permits(endpoint[0], self.now) and self.now + MARGIN < peer.bound_until
+        # (ChannelData has no DONT-FRAGMENT)
+        if is_bound and not whole:
             octets = spoken.channel_data(peer.number, data, self.settings.transport == "tcp")
             return self.say("sent-on-a-channel", f"to-server:{octets.hex()}")
         if any(it.permits(endpoint[0], self.now) for it in self.peers):
-            return self.say("sent", f"to-server:{spoken.send_indication(endpoint, data).hex()}")
+            return self.say("sent-whole" if whole else "sent", f"to-server:{spoken.send_indication(endpoint, data, whole).hex()}")
         return self.say("not-permitted", "dropped")
 
     # ---- a datagram
@@ -383,7 +395,9 @@ class Client:
         if message is None:
             return self.say("no-message")
         if message.kind == "indication" and message.method == wire.METHODS["data"]:
-            read = reading.peer_data(message)
+            read, failed = reading.peer_data(message), reading.peer_error(message)
+            if failed:
+                return self.show_error(*failed)
             return self.show(*read) if read else self.say("unfit-data")
         if message.kind not in ("success", "error"):
             return self.say("not-for-a-client")
@@ -393,6 +407,12 @@ class Client:
         if self.phase == "allocated" and any(it.permits(endpoint[0], self.now) for it in self.peers):
             return self.say("shown", f"data:{spelled(endpoint)}:{data.hex() or '-'}")
         return self.say("data-not-permitted")
+
+    def show_error(self, endpoint, error):
+        """An ICMP error about a packet to a peer (11.6)."""
+        if self.phase == "allocated" and any(it.permits(endpoint[0], self.now) for it in self.peers):
+            return self.say("error-shown", f"icmp:{spelled(endpoint)}:{error[2]}:{error[3]}:{int.from_bytes(error[4:])}")
+        return self.say("error-not-permitted")
 
     def show_on(self, number, data):
         peer = next((it for it in self.peers if it.number == number), None)
@@ -455,7 +475,8 @@ class Client:
         return self.grant(need.request, *answer.values)
 
     def grant(self, request, *values):
-        *addresses, seconds = values
+        *addresses, seconds = values[:3]
+        token = values[3] if len(values) > 3 else None
         if self.phase == "closing":
             return self.end("deleted", self.why)
         if addresses and len(addresses[0][0]) != self.settings.octets_in_an_address():
@@ -470,7 +491,10 @@ class Client:
         for peer in self.peers:
             if peer.rests_until is None:
                 peer.restart(self.now)
-        return self.say("allocated", f"allocated:{':'.join(map(spelled, addresses))}:{moment(self.expires)}")
+        word = f"allocated:{':'.join(map(spelled, addresses))}:{moment(self.expires)}"
+        if token is not None:
+            return self.say("allocated-with-a-token", f"token:{token.hex()}", word)
+        return self.say("allocated", word)
 
     def answer_peers(self, peers, answer):
         """An answer is for each peer that the request named."""

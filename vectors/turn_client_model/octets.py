@@ -9,6 +9,8 @@ SEND_IDENTITY = bytes(12)
 UDP = bytes([17, 0, 0, 0])
 FAMILIES = {"ipv4": 1, "ipv6": 2}
 NUMBERS = {"md5": 1, "sha256": 2}
+# EVEN-PORT, whose first bit asks for the next port too (18.7).
+EVEN = {"even": 0, "pair": 0x80}
 DIGITS = b"ABCDEFGHIJKLMNOPQRSTUVWXYZabcdefghijklmnopqrstuvwxyz0123456789+/"
 
 
@@ -57,13 +59,19 @@ def lifetime(seconds):
     return wire.LIFETIME, seconds.to_bytes(4)
 
 
-def request(kind, identity, login, seconds=None, family=None, peers=(), number=None):
+def request(kind, identity, login, seconds=None, family=None, peers=(), number=None, port=None, whole=False):
     """A request, of one of these kinds, unsigned if there is no login."""
     parts = [] if seconds is None else [lifetime(seconds)]
     if kind == "allocate":
         parts.append((wire.TRANSPORT, UDP))
-        if family:
+        # (a token names an address of its own family: 7.1)
+        if family and not isinstance(port, bytes):
             parts.append((wire.FAMILY, bytes([FAMILIES[family], 0, 0, 0])))
+        if port in EVEN:
+            parts.append((wire.EVEN_PORT, bytes([EVEN[port]])))
+        elif port:
+            parts.append((wire.TOKEN, port))
+        parts += [(wire.DONT_FRAGMENT, b"")] * whole
     if kind == "bind":
         parts.append((wire.CHANNEL_NUMBER, number.to_bytes(2) + bytes(2)))
     parts += [(wire.PEER, wire.xor_address(identity, it)) for it in peers]
@@ -72,8 +80,9 @@ def request(kind, identity, login, seconds=None, family=None, peers=(), number=N
     return wire.signed(octets, login.key(), login.hash_name()) if login else octets
 
 
-def send_indication(peer, data):
-    return message("indication", "send", SEND_IDENTITY, [(wire.PEER, wire.xor_address(SEND_IDENTITY, peer)), (wire.DATA, data)])
+def send_indication(peer, data, whole=False):
+    mark = [(wire.DONT_FRAGMENT, b"")] * whole
+    return message("indication", "send", SEND_IDENTITY, [*mark, (wire.PEER, wire.xor_address(SEND_IDENTITY, peer)), (wire.DATA, data)])
 
 
 def channel_data(number, data, is_stream=False):

@@ -59,6 +59,14 @@ def peer_data(message):
     return None if peer is None or data is None or message.get(ICMP) is not None else (peer, data)
 
 
+def peer_error(message):
+    """The peer and the eight octets of an ICMP error that a Data indication reports, or None (RFC 8656, 11.6 and 18.13)."""
+    if message.unknown(KNOWN):
+        return None
+    peer, error = wire.read_xor_address(message.identity, message.get(wire.PEER)), message.get(ICMP)
+    return None if peer is None or error is None or len(error) != 8 else (peer, error)
+
+
 def challenge_of(message, code, request, latest, supported):
     """What a 401 or a 438 asks for, or the rule by which its request isn't sent again (9.2.5)."""
     realm, nonce, algorithms = (message.get(it) for it in (wire.REALM, wire.NONCE, wire.ALGORITHMS))
@@ -146,4 +154,7 @@ def granted_values(message):
     if message.method != wire.METHODS["allocate"]:
         return ()
     relayed, mapped = (wire.read_xor_address(message.identity, message.get(it)) for it in (wire.RELAYED, wire.MAPPED))
-    return None if None in (relayed, mapped, seconds) else (relayed, mapped, seconds)
+    if None in (relayed, mapped, seconds):
+        return None
+    token = message.get(wire.TOKEN)
+    return relayed, mapped, seconds, token if token is not None and len(token) == 8 else None

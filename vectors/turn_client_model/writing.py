@@ -73,7 +73,10 @@ class Row:
     """A row: what is asked, and by hand what is answered."""
 
     def __init__(self, name, section, choice, settings="udp:-:-", by=BY_SHA256):
-        transport, family, seconds, *_ = settings.split(":")
+        transport, family, seconds, *options = settings.split(":")
+        tokens = [bytes.fromhex(it.removeprefix("token-")) for it in options if it.startswith("token-")]
+        self.port = next(iter(tokens), next((it for it in options if it in spoken.EVEN), None))
+        self.whole = "whole" in options
         self.head, self.settings, self.by, self.login = (name, section, choice), settings, by, None
         self.is_stream, self.family = transport == "tcp", None if family == "-" else family
         self.seconds = None if seconds == "-" else int(seconds)
@@ -121,6 +124,9 @@ class Row:
     def send(self, endpoint, data, *words):
         return self.event(words or ["dropped"], "send", address_word(endpoint), data.hex() or "-")
 
+    def send_whole(self, endpoint, data, *words):
+        return self.event(words or ["dropped"], "send-whole", address_word(endpoint), data.hex() or "-")
+
     def take(self, name, *words, source=SERVER_WORD):
         """A datagram with octets of this name."""
         return self.event(words, "from", source, name)
@@ -133,7 +139,7 @@ class Row:
         if kind in ("allocate", "refresh"):
             content = {"seconds": self.seconds, **content}
         if kind == "allocate":
-            content["family"] = self.family
+            content = {**content, "family": self.family, "port": self.port, "whole": self.whole}
         if "peer" in content:
             content["peers"] = [content.pop("peer")]
         octets = spoken.request(kind, order.to_bytes(12), login, **content)
@@ -262,9 +268,9 @@ class Row:
 
     # ---- data
 
-    def to_peer(self, endpoint, data, name="send"):
+    def to_peer(self, endpoint, data, name="send", whole=False):
         """The word for a Send indication."""
-        return f"to-server:{named(name, spoken.send_indication(endpoint, data))}"
+        return f"to-server:{named(name, spoken.send_indication(endpoint, data, whole))}"
 
     def on_channel(self, number, data, name="channel-data"):
         """The word for a ChannelData message."""
@@ -283,6 +289,10 @@ class Row:
 
 def error_value(code):
     return bytes([0, 0, code // 100, code % 100]) + REASONS.get(code, "").encode()
+
+
+def reports(endpoint, kind, code, data):
+    return f"icmp:{address_word(endpoint)}:{kind}:{code}:{data}"
 
 
 def shows(endpoint, data):

@@ -61,7 +61,13 @@ static uint32_t number_after(const char *option, const char *name) {
 static void set_option(stun_types_allocation_settings *settings, const char *option) {
     if (strcmp(option, "md5") == 0) settings->algorithm = STUN_TYPES_PASSWORD_MD5;
     else if (strcmp(option, "sha256") == 0) settings->algorithm = STUN_TYPES_PASSWORD_SHA256;
-    else if (number_after(option, "peers") != 0) settings->peers = number_after(option, "peers");
+    else if (strcmp(option, "even") == 0) settings->port = STUN_TYPES_ALLOCATION_PORT_EVEN;
+    else if (strcmp(option, "pair") == 0) settings->port = STUN_TYPES_ALLOCATION_PORT_PAIR;
+    else if (strcmp(option, "whole") == 0) settings->dont_fragment = 1;
+    else if (strncmp(option, "token-", 6) == 0) {
+        settings->port = STUN_TYPES_ALLOCATION_PORT_RESERVED;
+        settings->token = strtoull(option + 6, NULL, 16);
+    } else if (number_after(option, "peers") != 0) settings->peers = number_after(option, "peers");
     else if (number_after(option, "named") != 0 && number_after(option, "named") <= 16) settings->named = number_after(option, "named");
     else if (number_after(option, "sends") != 0) settings->sends = number_after(option, "sends");
     else if (number_after(option, "retries") != 0) settings->retries = number_after(option, "retries");
@@ -216,15 +222,15 @@ static bool want(stun_types_allocation_wish wish) {
     return is_taken(answer);
 }
 
-static bool send(void) {
+static bool send(bool is_whole) {
     static const stun_types_id id;
     const stun_types_address peer = turn_endpoint(call_word());
     const slice data = call_octets(), peer_given = given(&peer, sizeof peer), id_given = given(&id, sizeof id);
     stun_types_allocation_head *around = NEW(stun_types_allocation_head);
     uint8_t *head = room(STUN_TYPES_ALLOCATION_HEAD), *sent;
-    if (!is_taken(stun_types_allocation_send(client, now, data.length, (const void *)peer_given.bytes,
-                                             (const void *)id_given.bytes, head, STUN_TYPES_ALLOCATION_HEAD,
-                                             around)))
+    if (!is_taken((is_whole ? stun_types_allocation_send_whole : stun_types_allocation_send)(
+            client, now, data.length, (const void *)peer_given.bytes, (const void *)id_given.bytes, head,
+            STUN_TYPES_ALLOCATION_HEAD, around)))
         return false;
     CHECK(around->sends <= 1);
     if (around->sends == 0) {
@@ -256,8 +262,20 @@ static bool receive(void) {
         CHECK(is_zero(data, sizeof *data));
         return true;
     }
-    CHECK(data->shown == 1 && data->at <= datagram.length && data->length <= datagram.length - data->at);
     answer_space();
+    if (data->shown == STUN_TYPES_ALLOCATION_TOKEN) {
+        answer_text("token:%016llx", (unsigned long long)data->token);
+        return true;
+    }
+    if (data->shown == STUN_TYPES_ALLOCATION_ICMP) {
+        answer_text("icmp:");
+        answer_endpoint(&data->peer);
+        answer_text(":%u:%u:%lu", (unsigned)data->icmp_type, (unsigned)data->icmp_code,
+                    (unsigned long)data->icmp_data);
+        return true;
+    }
+    CHECK(data->shown == STUN_TYPES_ALLOCATION_DATA && data->at <= datagram.length);
+    CHECK(data->length <= datagram.length - data->at);
     answer_text("data:");
     answer_endpoint(&data->peer);
     answer_text(":");
@@ -317,7 +335,8 @@ static bool event(const char *name) {
     if (strcmp(name, "bind") == 0) return want(STUN_TYPES_ALLOCATION_BIND);
     if (strcmp(name, "close") == 0) return want(STUN_TYPES_ALLOCATION_CLOSE);
     if (strcmp(name, "drop") == 0) return want(STUN_TYPES_ALLOCATION_DROP);
-    if (strcmp(name, "send") == 0) return send();
+    if (strcmp(name, "send") == 0) return send(false);
+    if (strcmp(name, "send-whole") == 0) return send(true);
     if (strcmp(name, "from") == 0) return receive();
     if (strcmp(name, "poll") == 0) return poll();
     if (strcmp(name, "wake") == 0) return wake();

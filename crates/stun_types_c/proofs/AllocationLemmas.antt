@@ -41,10 +41,11 @@ use Rattle.turn_client_messages.specs.Views.{Asked, Dealing}
 use Rattle.turn_client_state.specs.States.{Held, output_at}
 use Rattle.turn_client.specs.Clients.{Client}
 use Rattle.turn_client.specs.Receiving.{awaited, dealing, event_at, free_number, judged}
-use Rattle.turn_client.specs.declared.receiving.PeerData.{PeerData}
-use Rattle.turn_client.specs.Receiving.{shown_with}
+use Rattle.turn_client.specs.declared.receiving.Received.{Received}
+use Rattle.turn_client.specs.declared.receiving.Received.TheVariants.{Data, Failed, Reservation}
+use Rattle.turn_client.specs.Receiving.{News, news_with, shown_with}
 use Rattle.stun_types_c.specs.declared.allocation_client.CAllocationData.{CAllocationData}
-use Rattle.stun_types_c.specs.AllocationCalls.{data_place, value_place, no_data, IsData, IsPlaced}
+use Rattle.stun_types_c.specs.AllocationCalls.{data_place, value_place, IsNews, IsReceived, IsTold}
 use Rattle.stun_types_c.specs.Attributes.{in_c}
 use Rattle.stun_types_c.specs.Values as values
 use Rattle.stun_types_c.specs.Values.{first_value}
@@ -264,15 +265,18 @@ data_stands client now from d peer bytes are is =
     (from_server d (is_endpoint from client.held.settings.server) (event_of from (free_number client.kept) (judged client d)) from
     (of_judged from (free_number client.kept) d (judged client d) (of_any (dealing client) (awaited client d) d are))) is
 
--- data in C's form is that which is shown
-pub shown_is_data : (d : List ℕ) (output : Output) (shown : Option PeerData) (out : CAllocationData)
-    → ((peer : Endpoint) (bytes : List ℕ) → output ≡ shows peer bytes → Stands d bytes) → output ≡ shown_with shown
-    → MatchOption shown (out ≡ no_data) (λ given. IsPlaced given.peer given.data.now d out) → IsData output d out
-shown_is_data d output None out law is placed = subst (λ (o : Output). IsData o d out) (sym is) placed
-shown_is_data d output (Some given) out law is placed =
-    subst (λ (o : Output). IsData o d out) (sym is) (record {
+-- data in C's form is that which is shown, or else what else there is
+pub shown_is_told : (d : List ℕ) (output : Output) (news : News) (received : Option Received) (out : CAllocationData)
+    → ((peer : Endpoint) (bytes : List ℕ) → output ≡ shows peer bytes → Stands d bytes) → output ≡ shown_with received → news ≡ news_with received
+    → IsReceived received d out → IsTold output news d out
+shown_is_told d output news None out law is told placed = subst (λ (o : Output). IsTold o news d out) (sym is) (subst (λ (n : News). IsNews n out) (sym told) placed)
+shown_is_told d output news (Some (Data given)) out law is told placed =
+    subst (λ (o : Output). IsTold o news d out) (sym is) (record {
       peer_is = placed.peer_is;
       stands = (λ i. slice_range d (placed.place_is i) (placed.place_is i + placed.length_is i)) ∙ law given.peer given.data.now is;
       length_is = placed.length_is;
       is_shown = placed.is_shown;
+      no_more = placed.no_more;
     })
+shown_is_told d output news (Some (Failed error)) out law is told placed = subst (λ (o : Output). IsTold o news d out) (sym is) (subst (λ (n : News). IsNews n out) (sym told) placed)
+shown_is_told d output news (Some (Reservation token)) out law is told placed = subst (λ (o : Output). IsTold o news d out) (sym is) (subst (λ (n : News). IsNews n out) (sym told) placed)

@@ -1,5 +1,5 @@
 -- What a TURN client is asked for, what it receives and what it sends, as C sees it.
-use Rattle.std.specs.Prelude.{◌≡◌, ◌⊎◌, ℕ, ◌+◌, true, List, [], ◌∷◌, length, slice_range, Option, None, Some, Result, Ok, Err, ◌||◌, MatchOption, IsSomeAnd, unwrap_or, max, ◌==◌, if◌then◌else◌}
+use Rattle.std.specs.Prelude.{◌≡◌, ◌⊎◌, ℕ, ◌+◌, Bool, true, false, List, [], ◌∷◌, length, slice_range, Option, None, Some, Result, Ok, Err, ◌||◌, MatchOption, IsSomeAnd, unwrap_or, max, ◌==◌, if◌then◌else◌}
 use Rattle.std.specs.List.{list_any}
 use Rattle.std.specs.Option.{option_map}
 use Rattle.stun_grammar.specs.declared.error.StunWriteError.{StunWriteError}
@@ -17,7 +17,10 @@ use Rattle.turn_client_state.specs.States.{output_at, setup_of}
 use Rattle.turn_client_state.specs.Waking.{wake}
 use Rattle.turn_client.specs.Clients.{Client, passes}
 use Rattle.turn_client.specs.Receiving as receiving
-use Rattle.turn_client.specs.Receiving.{event_at}
+use Rattle.turn_client.specs.declared.receiving.Received.{Received}
+use Rattle.turn_client.specs.declared.receiving.Received.TheVariants.{Data, Failed, Reservation}
+use Rattle.turn_client.specs.Receiving.{News, event_at, failed, news_at, no_news, reserved}
+use Rattle.turn_client_messages.specs.declared.peer_errors.PeerError.{PeerError}
 use Rattle.turn_client.specs.Sending as sending
 use Rattle.stun_types_c.specs.declared.address.Address.{Address}
 use Rattle.stun_types_c.specs.declared.allocation_client.CAllocationData.{CAllocationData}
@@ -90,18 +93,59 @@ Wants now wish peer result old new =
 -- ---- A datagram
 
 abbrev pub no_data : CAllocationData
-no_data = record { at = 0; length = 0; peer = nowhere; shown = 0 }
+no_data = record {
+  at = 0;
+  length = 0;
+  peer = nowhere;
+  shown = 0;
+  token = 0;
+  icmp_data = 0;
+  icmp_type = 0;
+  icmp_code = 0;
+  reserved = 0;
+}
 
--- data of a peer, a part of d; or none
+-- no ICMP error and no token
+pub record HasNoMore (out : CAllocationData) : Type 0 where
+  pub no_token : out.token ≡ 0
+  pub no_data_of_icmp : out.icmp_data ≡ 0
+  pub no_type : out.icmp_type ≡ 0
+  pub no_code : out.icmp_code ≡ 0
+  pub reserved_is : out.reserved ≡ 0
+
+-- data of a peer, a part of d
 pub record IsShown (peer : Endpoint) (bytes d : List ℕ) (out : CAllocationData) : Type 0 where
   pub peer_is : Holds (socket_of peer) out.peer
   pub stands : slice_range d out.at (out.at + out.length) ≡ bytes
   pub length_is : out.length ≡ length bytes
   pub is_shown : out.shown ≡ 1
+  pub no_more : HasNoMore out
 
-abbrev pub IsData : Output → List ℕ → CAllocationData → Type 0
-IsData (shows peer bytes) d out = IsShown peer bytes d out
-IsData _ d out = out ≡ no_data
+-- a packet to a peer was dropped (RFC 8656, section 11.6)
+pub record IsFailed (failed : PeerError) (out : CAllocationData) : Type 0 where
+  pub peer_is : Holds (socket_of failed.peer) out.peer
+  pub none_at : out.at ≡ 0
+  pub no_length : out.length ≡ 0
+  pub is_failed : out.shown ≡ 2
+  pub no_token : out.token ≡ 0
+  pub data_is : out.icmp_data ≡ failed.error.«data»
+  pub type_is : out.icmp_type ≡ failed.error.icmp_type
+  pub code_is : out.icmp_code ≡ failed.error.code
+  pub reserved_is : out.reserved ≡ 0
+
+-- the server has reserved a port (section 7.3)
+abbrev pub token_in_c : (token : ℕ) → CAllocationData
+token_in_c token = record no_data { shown = 3; token = token }
+
+abbrev pub IsNews : News → CAllocationData → Type 0
+IsNews (failed error) out = IsFailed error out
+IsNews (reserved token) out = out ≡ token_in_c token
+IsNews no_news out = out ≡ no_data
+
+-- the data that is shown, or else what else the datagram tells
+abbrev pub IsTold : Output → News → List ℕ → CAllocationData → Type 0
+IsTold (shows peer bytes) news d out = IsShown peer bytes d out
+IsTold _ news d out = IsNews news out
 
 -- where it is: after the four bytes that a ChannelData message begins with (RFC 8656, section 12.4), or as
 -- the value of the first DATA (section 18.4)
@@ -120,6 +164,13 @@ pub record IsPlaced (peer : Endpoint) (bytes d : List ℕ) (out : CAllocationDat
   pub place_is : out.at ≡ data_place d
   pub length_is : out.length ≡ length bytes
   pub is_shown : out.shown ≡ 1
+  pub no_more : HasNoMore out
+
+abbrev pub IsReceived : Option Received → List ℕ → CAllocationData → Type 0
+IsReceived None d out = out ≡ no_data
+IsReceived (Some (Data given)) d out = IsPlaced given.peer given.data.now d out
+IsReceived (Some (Failed error)) d out = IsFailed error out
+IsReceived (Some (Reservation token)) d out = out ≡ token_in_c token
 
 pub record DataLeft : Type 0 where
   pub core : Option AllocationCore
@@ -130,7 +181,8 @@ pub record ReceivesInC (core : AllocationCore) (now : ℕ) (from : Endpoint) (d 
     (kept : AllocationCore) : Type 0 where
   pub same : kept.changes ≡ core.changes
   pub receives : receiving.Receives core.client now from d kept.client
-  pub in_c : IsData (output_at now 0 (event_at core.client from d) core.client.held) d out
+  pub in_c : IsTold (output_at now 0 (event_at core.client from d) core.client.held)
+      (news_at core.client now from d kept.client.held.state) d out
 
 -- or, if it is a challenge, an allocation fails, and nothing changes
 abbrev pub ReceivesFrom : AllocationCore → (now : ℕ) → (from : Endpoint) → List ℕ → CResult → DataLeft → DataLeft
@@ -200,19 +252,26 @@ abbrev pub IsHeadInC : Result (Option Head) StunWriteError → CResult → CAllo
 IsHeadInC (Ok head) result around = (result ≡ plain OK) × (around ≡ head_in_c head)
 IsHeadInC (Err e) result around = (result ≡ write_result e) × (around ≡ no_head)
 
+-- what is written around n bytes of data with this output, with DONT-FRAGMENT or without it
+abbrev pub SentAs : (whole : Bool) → Client → (id n : ℕ) → (peer : Endpoint) → Output → (old new : List ℕ)
+    → Result (Option Head) StunWriteError → Type 0
+SentAs true client id n peer output old new head =
+    sending.SendsWhole client id peer n output old new head
+SentAs false client id n peer output old new head = sending.Sends client id n output old new head
+
 -- what is written around n bytes of data, whatever they are, as `TurnClient` does
-pub record SendsBy (core : AllocationCore) (now id n : ℕ) (peer : Endpoint) (result : CResult) (old new : List ℕ)
+pub record SendsBy (whole : Bool) (core : AllocationCore) (now id n : ℕ) (peer : Endpoint) (result : CResult) (old new : List ℕ)
     (around : CAllocationHead) (kept : AllocationCore) : Type 0 where
   pub same : kept.changes ≡ core.changes
   pub passed : (bytes : List ℕ) → kept.client ≡ passes now 0 (sends peer bytes) core.client
   pub head : Result (Option Head) StunWriteError
-  pub sends_are : (bytes : List ℕ) → sending.Sends core.client id n
+  pub sends_are : (bytes : List ℕ) → SentAs whole core.client id n peer
       (output_at now 0 (sends peer bytes) core.client.held) old new head
   pub in_c : IsHeadInC head result around
 
-abbrev pub SendsTo : (now n : ℕ) → (peer : Address) → Id → CResult → HeadLeft → HeadLeft → Type 0
-SendsTo now n peer id result old new =
+abbrev pub SendsTo : (whole : Bool) → (now n : ℕ) → (peer : Address) → Id → CResult → HeadLeft → HeadLeft → Type 0
+SendsTo whole now n peer id result old new =
     MatchOption (endpoint_named peer) (Refuses (plain BAD_ARGUMENT) result old new)
     (λ address. MatchOption old.core (Refuses (plain BAD_ARGUMENT) result old new)
     (λ core. IsSomeAnd new.core
-    (SendsBy core now (number id.bytes) n address result old.slice new.slice new.around)))
+    (SendsBy whole core now (number id.bytes) n address result old.slice new.slice new.around)))

@@ -12,6 +12,8 @@ use Rattle.turn_client_state.specs.declared.settings.Settings.{Settings}
 use Rattle.turn_client_state.specs.Reports.{nothing_of}
 use Rattle.turn_client_state.specs.States.{setup_of}
 use Rattle.turn_client.specs.Clients.{Client, algorithms_in, family_in, transport_of}
+use Rattle.turn_requests.specs.declared.request.RelayedPort.{RelayedPort}
+use Rattle.turn_requests.specs.declared.request.RelayedPort.TheVariants.{Any, Even, Reserved}
 use Rattle.stun_types_c.specs.declared.allocation_core.AllocationCore.{AllocationCore}
 use Rattle.stun_types_c.specs.declared.allocation_settings.CAllocationSettings.{CAllocationSettings}
 use Rattle.stun_types_c.specs.declared.allocation_settings.Checked.{Checked}
@@ -60,6 +62,19 @@ algorithm_named number =
 abbrev pub lifetime_named : ℕ → Option ℕ
 lifetime_named seconds = if seconds == 0 then None else Some seconds
 
+-- the port of a number, without a token: any, an even one, or one with the next one reserved; and of a number
+-- and a token: 3 is the port that the token reserves
+abbrev pub port_numbered : ℕ → Option RelayedPort
+port_numbered number =
+    if number == 0 then Some Any else (
+    if number == 1 then Some (Even false) else (
+    if number == 2 then Some (Even true) else None))
+
+abbrev pub port_named : (number token : ℕ) → Option RelayedPort
+port_named number token =
+    if number == 3 then Some (Reserved token) else (
+    if token == 0 then port_numbered number else None)
+
 -- ---- The settings
 
 -- over UDP (RFC 8489, section 6.2.1); and over TCP, where a request is sent once (section 6.2.2)
@@ -89,21 +104,22 @@ settings_by named Tcp server family counts = record {
 }
 
 abbrev pub checked_with : CAllocationSettings → (server : Endpoint) → TransportType → (family : ℕ × Bool) → Counts
-    → (only : Option PasswordAlgorithmValue) → Checked
-checked_with named server transport family counts only = record {
+    → RelayedPort → (only : Option PasswordAlgorithmValue) → Checked
+checked_with named server transport family counts port only = record {
   settings = settings_by named transport server family.0 counts;
   names_ipv4 = family.1;
+  port = port;
   only_algorithm = only;
 }
 
--- each number is in its range, and reserved is 0
+-- each number is in its range
 abbrev pub checked_named : CAllocationSettings → Option Checked
 checked_named named =
-    if named.reserved == 0 then
     option_and_then (λ server. option_and_then (λ transport. option_and_then (λ family. option_and_then (λ counts.
-    option_map (checked_with named server transport family counts) (algorithm_named named.algorithm))
-    (counts_named named)) (family_named named.family)) (transport_numbered named.transport))
-    (endpoint_named named.server) else None
+    option_and_then (λ port.
+    option_map (checked_with named server transport family counts port) (algorithm_named named.algorithm))
+    (port_named named.port named.token)) (counts_named named)) (family_named named.family))
+    (transport_numbered named.transport)) (endpoint_named named.server)
 
 -- ---- Why no client is made
 
@@ -135,6 +151,8 @@ abbrev pub content_named : CAllocationSettings → Checked → Content
 content_named named checked = record {
   lifetime = lifetime_named named.lifetime;
   family = family_in checked.settings.family checked.names_ipv4;
+  port = checked.port;
+  dont_fragment = is_set named.dont_fragment;
   software = software_named named.software.now;
   fingerprint = is_set named.fingerprint;
 }

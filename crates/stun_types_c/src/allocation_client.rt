@@ -1,13 +1,13 @@
 //! What a TURN client is asked for, what it receives, and what it sends.
 
-ghost use Rattle.std.specs.Prelude.{◌≡◌, ◌+◌, ℕ, List, length, slice_range, Some, MatchOption};
+ghost use Rattle.std.specs.Prelude.{◌≡◌, ◌+◌, ℕ, true, false, List, length, slice_range, Some};
 ghost use Rattle.stun_endpoints.specs.declared.endpoints.Endpoint.{Endpoint};
 ghost use Rattle.turn_client_machine.specs.Events.{allocates, binds, closes, drops, permits, polls, sends, shows};
 ghost use Rattle.turn_client_state.specs.States.{output_at};
 ghost use Rattle.turn_client_state.specs.Waking.{wake};
 ghost use Rattle.turn_client.specs.Clients.{Client, passes};
 ghost use Rattle.turn_client.specs.Receiving.{event_at};
-ghost use Rattle.stun_types_c.specs.AllocationCalls.{DataLeft, HeadLeft, IsHeadInC, IsPlaced, IsWritten, PollLeft, PollsClient, ReceivesFrom, SendsBy, SendsTo, TakesDatagram, Wants, WantsIn, WritesInC, bind_result, data_place, event_named, head_in_c, name_result, no_data, no_head, permit_result, value_place, wake_shown, with_client};
+ghost use Rattle.stun_types_c.specs.AllocationCalls.{DataLeft, HeadLeft, IsFailed, IsHeadInC, IsPlaced, IsReceived, IsWritten, PollLeft, PollsClient, ReceivesFrom, SendsBy, SendsTo, SentAs, TakesDatagram, Wants, WantsIn, WritesInC, bind_result, data_place, event_named, head_in_c, name_result, no_data, no_head, permit_result, token_in_c, value_place, wake_shown, with_client};
 ghost use Rattle.stun_types_c.specs.AllocationHandles.{held_client};
 
 use crate::address::Address;
@@ -26,9 +26,9 @@ use stun_endpoints::Endpoint;
 use stun_types::message::{StunWriteError, TransactionId};
 use turn_attrs::attribute_types::DATA;
 use turn_attrs::{ChannelRange, Head};
-use turn_client::{NameError, PeerData};
+use turn_client::{NameError, PeerData, PeerError, Received, TurnClient};
 
-/// Data of a peer that a client received.
+/// What a client received: data of a peer, an ICMP error, or the token of a reservation.
 #[repr(C)]
 #[derive(Clone, Copy, Drop)]
 pub struct CAllocationData {
@@ -38,8 +38,18 @@ pub struct CAllocationData {
     pub length: usize,
     /// The peer.
     pub peer: Address,
-    /// 1: there is data.
+    /// 1: there is data; 2: an ICMP error; 3: a token.
     pub shown: u32,
+    /// The token of the reservation.
+    pub token: u64,
+    /// The data of the ICMP message.
+    pub icmp_data: u32,
+    /// Its type.
+    pub icmp_type: u8,
+    /// Its code.
+    pub icmp_code: u8,
+    /// 0.
+    pub reserved: u16,
 }
 
 /// What is around data for a peer.
@@ -62,6 +72,11 @@ const NO_DATA: CAllocationData = CAllocationData {
     length: 0,
     peer: NOWHERE,
     shown: 0,
+    token: 0,
+    icmp_data: 0,
+    icmp_type: 0,
+    icmp_code: 0,
+    reserved: 0,
 };
 
 /// Nothing is sent.
@@ -196,17 +211,64 @@ fn data_is_at_its_place(datagram: &[u8])
 {}
 
 /// Data, in C's form.
-fn data_in_c(datagram: &[u8], shown: Option<PeerData<'_>>) -> CAllocationData
-    ensures { MatchOption shown.entry (result ≡ no_data)
-        (λ given. IsPlaced given.peer given.data.now datagram.now result) }
+fn data_in_c(datagram: &[u8], shown: PeerData<'_>) -> CAllocationData
+    ensures { IsPlaced shown.entry.peer shown.entry.data.now datagram.now result }
 {
-    match shown {
-        Some(shown) => CAllocationData {
-            at: data_place(datagram),
-            length: shown.data.len(),
-            peer: address_of(shown.peer),
-            shown: 1,
-        },
+    CAllocationData {
+        at: data_place(datagram),
+        length: shown.data.len(),
+        peer: address_of(shown.peer),
+        shown: 1,
+        token: 0,
+        icmp_data: 0,
+        icmp_type: 0,
+        icmp_code: 0,
+        reserved: 0,
+    }
+}
+
+/// An ICMP error, in C's form.
+fn error_in_c(failed: PeerError) -> CAllocationData
+    ensures { IsFailed failed result }
+{
+    CAllocationData {
+        at: 0,
+        length: 0,
+        peer: address_of(failed.peer),
+        shown: 2,
+        token: 0,
+        icmp_data: failed.error.data,
+        icmp_type: failed.error.icmp_type,
+        icmp_code: failed.error.code,
+        reserved: 0,
+    }
+}
+
+/// A token, in C's form.
+fn token_in_c(token: u64) -> CAllocationData
+    ensures { result ≡ token_in_c token }
+{
+    CAllocationData {
+        at: 0,
+        length: 0,
+        peer: NOWHERE,
+        shown: 3,
+        token,
+        icmp_data: 0,
+        icmp_type: 0,
+        icmp_code: 0,
+        reserved: 0,
+    }
+}
+
+/// What was received, in C's form.
+fn received_in_c(datagram: &[u8], received: Option<Received<'_>>) -> CAllocationData
+    ensures { IsReceived received.entry datagram.now result }
+{
+    match received {
+        Some(Received::Data(shown)) => data_in_c(datagram, shown),
+        Some(Received::Failed(failed)) => error_in_c(failed),
+        Some(Received::Reservation(token)) => token_in_c(token),
         None => NO_DATA,
     }
 }
@@ -226,8 +288,8 @@ fn receive(
 {
     data_is_at_its_place(datagram);
     match core.client.on_datagram(alloc, now, from, datagram) {
-        Ok(shown) => {
-            *out = data_in_c(datagram, shown);
+        Ok(received) => {
+            *out = received_in_c(datagram, received);
             plain(codes::OK)
         }
         Err(error) => write_result(error),
@@ -361,9 +423,30 @@ fn written_in_c(
     }
 }
 
+/// What `TurnClient` writes before data, with DONT-FRAGMENT or without it.
+fn head_of(
+    client: &mut TurnClient,
+    whole: bool,
+    now: u64,
+    peer: Endpoint,
+    data_length: usize,
+    id: TransactionId,
+    head: &mut [u8],
+) -> Result<Option<Head>, StunWriteError>
+    ensures state { (bytes : List ℕ) → client.new ≡ passes now 0 (sends peer bytes) client.old }
+    ensures head { (bytes : List ℕ) → SentAs whole client.old id data_length peer
+        (output_at now 0 (sends peer bytes) client.old.held) head.old head.new result }
+{
+    if whole {
+        return client.send_whole(now, peer, data_length, id, head);
+    }
+    client.send(now, peer, data_length, id, head)
+}
+
 /// Writes what comes before data for a peer.
 fn send(
     core: &mut AllocationCore,
+    whole: bool,
     now: u64,
     peer: Endpoint,
     data_length: usize,
@@ -371,10 +454,39 @@ fn send(
     head: &mut [u8],
     around: &mut CAllocationHead,
 ) -> CResult
-    ensures { SendsBy core.old now id data_length peer result head.old head.new around.new core.new }
+    ensures { SendsBy whole core.old now id data_length peer result head.old head.new around.new core.new }
 {
-    let written = core.client.send(now, peer, data_length, id, head);
+    let written = head_of(&mut core.client, whole, now, peer, data_length, id, head);
     written_in_c(written, around)
+}
+
+/// Writes what comes before data for a peer, if the data may be sent.
+fn send_to(
+    alloc: Global,
+    client: &mut CAllocation,
+    whole: bool,
+    now: u64,
+    data_length: usize,
+    peer: &Address,
+    id: &Id,
+    head: &mut [u8],
+    around: &mut CAllocationHead,
+) -> CResult
+    ensures { SendsTo whole now data_length peer.now id.now result
+        (record { core = held_client client.old; slice = head.old; around = no_head })
+        (record { core = held_client client.new; slice = head.new; around = around.new }) }
+{
+    *around = NO_HEAD;
+    let Some(peer) = endpoint_in(peer) else {
+        return plain(codes::BAD_ARGUMENT);
+    };
+    let Some(mut core) = take(client, alloc) else {
+        return plain(codes::BAD_ARGUMENT);
+    };
+    let id = TransactionId::from_bytes(&id.bytes);
+    let result = send(&mut core, whole, now, peer, data_length, id, head, around);
+    put(client, core);
+    result
 }
 
 /// Writes what comes before data for a peer, if the data may be sent.
@@ -389,19 +501,48 @@ pub extern "C" fn stun_types_allocation_send(
     head: &mut [u8],
     around: &mut CAllocationHead,
 ) -> CResult
-    ensures { SendsTo now data_length peer.now id.now result
+    ensures { SendsTo false now data_length peer.now id.now result
         (record { core = held_client client.old; slice = head.old; around = no_head })
         (record { core = held_client client.new; slice = head.new; around = around.new }) }
 {
-    *around = NO_HEAD;
-    let Some(peer) = endpoint_in(peer) else {
-        return plain(codes::BAD_ARGUMENT);
-    };
-    let Some(mut core) = take(client, alloc) else {
-        return plain(codes::BAD_ARGUMENT);
-    };
-    let id = TransactionId::from_bytes(&id.bytes);
-    let result = send(&mut core, now, peer, data_length, id, head, around);
-    put(client, core);
-    result
+    send_to(
+        alloc,
+        client,
+        false,
+        now,
+        data_length,
+        peer,
+        id,
+        head,
+        around,
+    )
+}
+
+/// Writes what comes before data for a peer that is sent with the DF bit set, if the data may be sent.
+#[unsafe(no_mangle)]
+pub extern "C" fn stun_types_allocation_send_whole(
+    alloc: Global,
+    client: &mut CAllocation,
+    now: u64,
+    data_length: usize,
+    peer: &Address,
+    id: &Id,
+    head: &mut [u8],
+    around: &mut CAllocationHead,
+) -> CResult
+    ensures { SendsTo true now data_length peer.now id.now result
+        (record { core = held_client client.old; slice = head.old; around = no_head })
+        (record { core = held_client client.new; slice = head.new; around = around.new }) }
+{
+    send_to(
+        alloc,
+        client,
+        true,
+        now,
+        data_length,
+        peer,
+        id,
+        head,
+        around,
+    )
 }

@@ -7,7 +7,7 @@ ghost use Rattle.turn_client_state.specs.Reports.{nothing_of};
 ghost use Rattle.turn_client_state.specs.States.{setup_of};
 ghost use Rattle.turn_client.specs.Clients.{algorithms_in, content_of, transport_of};
 ghost use Rattle.stun_types_c.specs.AllocationHandles.{held_client};
-ghost use Rattle.stun_types_c.specs.AllocationMaking.{MakesClient, account_answer, algorithm_named, checked_named, client_answer, content_named, counts_named, credentials_answer, endpoint_named, family_named, lifetime_named, made_of as client_made, number_named, settings_by, user_named, wait_named};
+ghost use Rattle.stun_types_c.specs.AllocationMaking.{MakesClient, account_answer, algorithm_named, checked_named, client_answer, content_named, counts_named, credentials_answer, endpoint_named, family_named, lifetime_named, made_of as client_made, number_named, port_named, port_numbered, settings_by, user_named, wait_named};
 ghost use Rattle.stun_types_c.specs.CResults.{plain};
 ghost use Rattle.stun_types_c.specs.Codes.{OUT_OF_MEMORY};
 ghost use Rattle.stun_types_c.specs.Versions.{no_key};
@@ -28,7 +28,7 @@ use stun_endpoints::Endpoint;
 use stun_types::TransportType;
 use stun_types::attribute::PasswordAlgorithmValue;
 use stun_types::message::LongTermCredentials;
-use turn_client::{Account, Changes, Settings, TurnClient};
+use turn_client::{Account, Changes, RelayedPort, Settings, TurnClient};
 
 /// What a TURN client is made by, as C sets it.
 #[repr(C)]
@@ -64,8 +64,13 @@ pub struct CAllocationSettings<'a> {
     pub fingerprint: u16,
     /// The most peers that one CreatePermission request names; 0: 8.
     pub named: u32,
-    /// 0.
-    pub reserved: u32,
+    /// The number of the port that is asked for: any, an even one, one with the next one reserved, or that of
+    /// the token.
+    pub port: u16,
+    /// Not 0: Allocate requests have a DONT-FRAGMENT.
+    pub dont_fragment: u16,
+    /// The token of a reservation; 0 with another port.
+    pub token: u64,
 }
 
 /// How many peers, peers of one request, sendings and retries there are at most.
@@ -82,6 +87,7 @@ pub(crate) struct Counts {
 pub(crate) struct Checked {
     pub(crate) settings: Settings,
     pub(crate) names_ipv4: bool,
+    pub(crate) port: RelayedPort,
     pub(crate) only_algorithm: Option<PasswordAlgorithmValue>,
 }
 
@@ -160,6 +166,31 @@ pub(crate) fn times_of(usual: u8, number: u32) -> Option<u8>
         return None;
     }
     Some(number as u8)
+}
+
+/// The port of a number, without a token.
+fn port_numbered(number: u16) -> Option<RelayedPort>
+    ensures { result ≡ port_numbered number }
+{
+    match number {
+        0 => Some(RelayedPort::Any),
+        1 => Some(RelayedPort::Even { reserves: false }),
+        2 => Some(RelayedPort::Even { reserves: true }),
+        _ => None,
+    }
+}
+
+/// The port that is asked for.
+fn port_of(number: u16, token: u64) -> Option<RelayedPort>
+    ensures { result ≡ port_named number token }
+{
+    if number == 3 {
+        return Some(RelayedPort::Reserved(token));
+    }
+    if token != 0 {
+        return None;
+    }
+    port_numbered(number)
 }
 
 fn counts_of(named: &CAllocationSettings<'_>) -> Option<Counts>
@@ -254,17 +285,16 @@ fn settings_by(
 fn numbers_of(named: &CAllocationSettings<'_>) -> Option<Checked>
     ensures { result ≡ checked_named named.now }
 {
-    if named.reserved != 0 {
-        return None;
-    }
     let server = endpoint_in(&named.server)?;
     let transport = transport_of(named.transport)?;
     let (family, names_ipv4) = family_of(named.family)?;
     let counts = counts_of(named)?;
+    let port = port_of(named.port, named.token)?;
     let only_algorithm = algorithm_of(named.algorithm)?;
     Some(Checked {
         settings: settings_by(named, transport, server, family, &counts),
         names_ipv4,
+        port,
         only_algorithm,
     })
 }
@@ -322,6 +352,8 @@ fn account_of(
         credentials,
         lifetime: lifetime_of(named.lifetime),
         names_ipv4: checked.names_ipv4,
+        port: checked.port,
+        dont_fragment: named.dont_fragment != 0,
         only_algorithm: checked.only_algorithm,
         software,
         fingerprint: named.fingerprint != 0,

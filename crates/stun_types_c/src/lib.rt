@@ -85,6 +85,7 @@ pub use allocation_client::CAllocationHead;
 pub use allocation_client::stun_types_allocation_datagram;
 pub use allocation_client::stun_types_allocation_poll;
 pub use allocation_client::stun_types_allocation_send;
+pub use allocation_client::stun_types_allocation_send_whole;
 pub use allocation_client::stun_types_allocation_want;
 pub use allocation_core::AllocationCore;
 pub use allocation_handle::CAllocation;

@@ -46,6 +46,8 @@ abbrev pub content_of : Settings → Account → Content
 content_of settings account = record {
   lifetime = account.lifetime;
   family = family_in settings.family account.names_ipv4;
+  port = account.port;
+  dont_fragment = account.dont_fragment;
   software = option_map text_bytes account.software;
   fingerprint = account.fingerprint;
 }

@@ -1,20 +1,26 @@
 -- What a client does with a datagram, and what it sends.
-use Rattle.std.specs.Prelude.{◌≡◌, ℕ, Bool, true, false, not, List, [], ◌∷◌, ◌++◌, length, filter, find, unwrap_or, Option, None, Some, is_some, option_and_then, if◌then◌else◌}
+use Rattle.std.specs.Prelude.{◌≡◌, ℕ, Bool, true, false, not, ◌&&◌, List, [], ◌∷◌, ◌++◌, length, filter, find, unwrap_or, Option, None, Some, is_some, option_and_then, if◌then◌else◌}
 use Rattle.std.specs.List.{list_any, range_with_len}
-use Rattle.std.specs.Option.{option_map}
+use Rattle.std.specs.Option.{option_map, option_map_or}
 use Rattle.stun_authentication.specs.Challenges.{Retry}
 use Rattle.stun_authentication.specs.Requests.{User, user_key}
 use Rattle.stun_keys.specs.declared.keys.integrity_key.IntegrityKey.{IntegrityKey}
 use Rattle.stun_keys.specs.Keys.{IsKey}
 use Rattle.turn_client_machine.specs.declared.requests.Request.{Request}
-use Rattle.turn_client_machine.specs.Clients.{Endpoint, is_endpoint}
+use Rattle.turn_client_machine.specs.declared.phases.Phase.{Phase}
+use Rattle.turn_client_machine.specs.Clients.{Endpoint, Ip, State, is_allocated, is_endpoint, is_permitted}
 use Rattle.turn_client_machine.specs.declared.requests.Answer.TheVariants.{Challenged}
 use Rattle.turn_client_machine.specs.Events.{Event, responds, strays, Output, shows, nothing}
-use Rattle.turn_client_messages.specs.Judging.{Judged, challenge, event_of, judge, response_id}
+use Rattle.turn_client_messages.specs.declared.peer_errors.PeerError.{PeerError}
+use Rattle.turn_client_messages.specs.Judging.{Judged, challenge, event_of, judge, response, response_id, stray}
+use Rattle.turn_client_messages.specs.PeerErrors.{peer_error, reservation_token}
 use Rattle.turn_client_messages.specs.Views.{Asked, Dealing}
 use Rattle.turn_client_state.specs.Challenges.{has_challenge}
 use Rattle.turn_client_state.specs.States.{Held, after, request_with}
+use Rattle.turn_client_machine.specs.Steps.{at}
 use Rattle.turn_client.specs.declared.receiving.PeerData.{PeerData}
+use Rattle.turn_client.specs.declared.receiving.Received.{Received}
+use Rattle.turn_client.specs.declared.receiving.Received.TheVariants.{Data, Failed, Reservation}
 use Rattle.turn_client.specs.Clients.{Client, Kept, has_number, login_for}
 
 -- whether the challenge had a list of password algorithms
@@ -111,6 +117,53 @@ pub record Receives (client : Client) (now : ℕ) (from : Endpoint) (d : List �
   pub after : next ≡ received_with brought now from d client
 
 -- the data that is shown, if any is
-abbrev pub shown_with : Option PeerData → Output
+abbrev pub data_with : Option PeerData → Output
+data_with None = nothing
+data_with (Some given) = shows given.peer given.data.now
+
+abbrev pub shown_with : Option Received → Output
 shown_with None = nothing
-shown_with (Some given) = shows given.peer given.data.now
+shown_with (Some (Data given)) = data_with (Some given)
+shown_with (Some (Failed error)) = nothing
+shown_with (Some (Reservation token)) = nothing
+
+-- ---- What a datagram tells the user besides data
+
+-- that a packet to a peer was dropped; the token of the reservation that the server has made; or nothing
+pub data News : Type 0 where
+  failed : PeerError → News
+  reserved : (token : ℕ) → News
+  no_news : News
+
+abbrev pub news_with : Option Received → News
+news_with None = no_news
+news_with (Some (Data given)) = no_news
+news_with (Some (Failed error)) = failed error
+news_with (Some (Reservation token)) = reserved token
+
+-- Whether data of an IP address would be shown: there is an allocation, and the server permits it. An
+-- error of one that it doesn't permit is dropped (RFC 8656, section 11.6)
+abbrev pub hears : State → Ip → Bool
+hears state ip = is_allocated state.phase && list_any (is_permitted state.clock ip) state.peers
+
+abbrev pub heard_error : State → Option PeerError → Option PeerError
+heard_error state error =
+    option_and_then (λ e. if hears state e.peer.ip then Some e else None) error
+
+-- the token in the response that has brought the allocation (section 7.3)
+abbrev pub token_then : (before after : Phase) → List ℕ → Option ℕ
+token_then before after d =
+    if not (is_allocated before) && is_allocated after then reservation_token d else None
+
+abbrev pub news_of : (now : ℕ) → (before after : State) → List ℕ → Judged → News
+news_of now before after d (response id authentic answer) =
+    option_map_or (λ token. reserved token) (token_then before.phase after.phase d) no_news
+news_of now before after d stray =
+    option_map_or (λ error. failed error) (heard_error (at now before) (peer_error d)) no_news
+news_of now before after d _ = no_news
+
+-- of a datagram that took a client to its next state; what doesn't come from the server tells nothing
+abbrev pub news_at : Client → (now : ℕ) → (from : Endpoint) → List ℕ → (after : State) → News
+news_at client now from d after =
+    if is_endpoint from client.held.settings.server
+    then news_of now client.held.state after d (judged client d) else no_news

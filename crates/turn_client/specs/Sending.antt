@@ -8,7 +8,7 @@ use Rattle.turn_client_machine.specs.declared.requests.Request.{Request}
 use Rattle.turn_client_machine.specs.Clients.{Endpoint}
 use Rattle.turn_client_machine.specs.Events.{Output, asks, send_to, send_on, nothing}
 use Rattle.turn_client_messages.specs.declared.sending.Carrier.{Carrier}
-use Rattle.turn_client_messages.specs.declared.sending.Carrier.TheVariants.{Channel, Indication}
+use Rattle.turn_client_messages.specs.declared.sending.Carrier.TheVariants.{Channel, Indication, Whole}
 use Rattle.turn_client_messages.specs.Heads.{carried, Surrounds, head_fault_of}
 use Rattle.turn_client_messages.specs.Requests.{text_of, refusal_of}
 use Rattle.turn_client.specs.Clients.{Client}
@@ -84,3 +84,14 @@ Sends client id n (send_to peer bytes) old new result =
 Sends client id n (send_on number bytes) old new result =
     SendsOn client number (channel_of number) n old new result
 Sends client id n _ old new result = ⊥
+
+-- The same with DONT-FRAGMENT, which ChannelData has no room for: in a Send indication, also to a peer with a
+-- channel
+abbrev pub SendsWhole : Client → (id : ℕ) → (peer : Endpoint) → (n : ℕ) → Output → (old new : List ℕ)
+    → Result (Option Head) StunWriteError → Type 0
+SendsWhole client id peer n nothing old new result = (result ≡ Ok None) × (new ≡ old)
+SendsWhole client id peer n (send_to other bytes) old new result =
+    IsCarried client (Whole id peer) n old new result
+SendsWhole client id peer n (send_on number bytes) old new result =
+    IsCarried client (Whole id peer) n old new result
+SendsWhole client id peer n _ old new result = ⊥

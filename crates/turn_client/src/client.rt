@@ -48,7 +48,7 @@ use turn_requests::Login;
 /// use stun_types::attribute::MessageIntegritySha256;
 /// use stun_types::message::{LongTermCredentials, Message, TransactionId};
 /// use stun_types::prelude::*;
-/// use turn_client::{Account, Settings, TurnClient};
+/// use turn_client::{Account, RelayedPort, Settings, TurnClient};
 ///
 /// let server = Endpoint::from("192.0.2.1:3478".parse::<SocketAddr>()?);
 /// let name = String::from_str(alloc, "user")?;
@@ -57,6 +57,8 @@ use turn_requests::Login;
 ///     credentials: LongTermCredentials::new(name, password),
 ///     lifetime: None,
 ///     names_ipv4: false,
+///     port: RelayedPort::Any,
+///     dont_fragment: false,
 ///     only_algorithm: None,
 ///     software: None,
 ///     fingerprint: false,
@@ -138,6 +140,8 @@ pub(crate) fn content<'a>(settings: &Settings, account: &'a Account) -> RequestS
     RequestSettings {
         lifetime: account.lifetime,
         family: family(settings.family, account.names_ipv4),
+        port: account.port,
+        dont_fragment: account.dont_fragment,
         software: account.software.as_ref(),
         fingerprint: account.fingerprint,
     }

@@ -10,8 +10,8 @@
 //! datagram is, and which bytes a request is, `turn_client_messages` says. Each contract has both:
 //! `specs/Receiving.antt` what a datagram does, and `specs/Sending.antt` what is written.
 //!
-//! EVEN-PORT, RESERVATION-TOKEN, allocations of both families, DONT-FRAGMENT and ICMP are not part of
-//! it, nor a server without credentials: only signed responses count, and challenges.
+//! Allocations of both families are not part of it, nor a server without credentials: only signed
+//! responses count, and challenges.
 #![tactic(auto)]
 
 mod account;
@@ -31,6 +31,9 @@ pub use laws::{
     polls_come_to_an_end, polls_in_time, server_agrees, server_keeps, stays_punctual,
     strangers_change_nothing, will_reach,
 };
-pub use receiving::PeerData;
+pub use receiving::{PeerData, Received};
+pub use turn_attrs::IcmpError;
 pub use turn_client_machine::{End, Peer, Phase};
+pub use turn_client_messages::PeerError;
 pub use turn_client_state::{Change, Changes, NameError, Report, Settings, Standing, Status};
+pub use turn_requests::RelayedPort;

@@ -1,21 +1,23 @@
 //! What comes from the server.
 
-ghost use Rattle.std.specs.Prelude.{true, ◌≡◌, ◌++◌, ◌∷◌, [], map, filter, MatchResult, IfOk, OnOk, IfErr, Err};
+ghost use Rattle.std.specs.Prelude.{true, ◌≡◌, ◌&&◌, ◌++◌, ◌∷◌, [], map, filter, MatchResult, IfOk, OnOk, IfErr, Err};
 ghost use Rattle.std.specs.Option.{option_map};
 ghost use Rattle.stun_authentication.specs.Challenges.{retry_of};
 ghost use Rattle.stun_authentication.specs.Requests.{user_key, user_of};
 ghost use Rattle.stun_endpoints.specs.declared.endpoints.Endpoint.{Endpoint};
 ghost use Rattle.stun_keys.specs.Keys.{IsKey};
-ghost use Rattle.turn_client_machine.specs.Clients.{is_endpoint};
+ghost use Rattle.turn_client_machine.specs.Clients.{is_allocated, is_endpoint};
 ghost use Rattle.turn_client_machine.specs.Events.{gives, gives_on, responds, strays};
+ghost use Rattle.turn_client_machine.specs.Steps.{at};
 ghost use Rattle.turn_client_messages.specs.Judging.{judge};
+ghost use Rattle.turn_client_messages.specs.PeerErrors.{peer_error, reservation_token};
 ghost use Rattle.turn_client_messages.specs.Reporting.{judged_of};
 ghost use Rattle.turn_client_messages.specs.Views.{asked_of};
 ghost use Rattle.turn_client_state.specs.Challenges.{has_challenge};
 ghost use Rattle.turn_client_state.specs.States.{output_at};
 ghost use Rattle.turn_client.specs.Clients.{kept_of, passes};
 ghost use Rattle.turn_client.specs.Receiving as receiving;
-ghost use Rattle.turn_client.specs.Receiving.{asked_by, dealing, event_at, Receives, TakesChallenge, shown_with};
+ghost use Rattle.turn_client.specs.Receiving.{asked_by, dealing, event_at, Receives, TakesChallenge, data_with, heard_error, news_at, news_with, shown_with, token_then};
 
 use crate::account::Account;
 use crate::client::{TurnClient, transport};
@@ -25,8 +27,10 @@ use stun_authentication::{Retry, key_for};
 use stun_endpoints::Endpoint;
 use stun_types::attribute::PasswordAlgorithmValue;
 use stun_types::message::StunWriteError;
-use turn_client_machine::{Answer, Request};
-use turn_client_messages::{ClientRequest, Judged, Session, judge, response_id};
+use turn_client_machine::{Answer, Phase, Request};
+use turn_client_messages::{
+    ClientRequest, Judged, PeerError, Session, judge, peer_error, reservation_token, response_id,
+};
 use turn_client_state::ClientState;
 
 /// The password algorithms of a client, the one that it prefers first.
@@ -42,6 +46,19 @@ pub struct PeerData<'d> {
     pub peer: Endpoint,
     /// The data.
     pub data: &'d [u8],
+}
+
+/// What a datagram brings to the user.
+#[derive(Clone, Copy, Debug, PartialEq, Eq)]
+pub enum Received<'d> {
+    /// Data of a peer.
+    Data(PeerData<'d>),
+    /// The server has received an ICMP error about a packet to a peer (RFC 8656, section 11.6). Whoever can
+    /// send from the server's address can make one: it isn't signed.
+    Failed(PeerError),
+    /// The allocation has come, and the server has reserved the next-higher port, for 30 seconds or longer.
+    /// By this token another client asks for it ([`RelayedPort::Reserved`](crate::RelayedPort)).
+    Reservation(u64),
 }
 
 /// Credentials for a challenge, by a number.
@@ -181,6 +198,66 @@ impl TurnClient {
         self.state.on_response(now, from, id, is_authentic, answer);
     }
 
+    /// Whether there is an allocation.
+    fn is_allocated(&self) -> bool
+        ensures { result ≡ is_allocated self.now.held.state.phase }
+    {
+        match self.state.status().phase {
+            Phase::Allocated => true,
+            Phase::Quiet | Phase::Asking | Phase::Closing(_) | Phase::Ended(_) => false,
+        }
+    }
+
+    /// Takes a response, and returns the token of a reservation, if the response has brought the allocation
+    /// and has one.
+    fn take_response(
+        &mut self,
+        now: u64,
+        from: Endpoint,
+        id: u128,
+        is_authentic: bool,
+        answer: Answer,
+        datagram: &[u8],
+    ) -> Option<u64>
+        ensures state { self.new ≡ passes now 0 (responds from id is_authentic answer) self.old }
+        ensures token { result ≡ token_then self.old.held.state.phase self.new.held.state.phase
+            datagram.now }
+    {
+        let was_allocated = self.is_allocated();
+        self.respond(now, from, id, is_authentic, answer);
+        if !was_allocated && self.is_allocated() {
+            return reservation_token(datagram);
+        }
+        None
+    }
+
+    /// Takes what isn't data of a peer, and returns whether data of it would be shown.
+    fn hears(&mut self, now: u64, from: Endpoint, peer: Endpoint) -> bool
+        ensures state { (from : Endpoint) → self.new ≡ passes now 0 (strays from) self.old }
+        ensures heard { result ≡ (is_endpoint from self.old.held.settings.server
+            && receiving.hears (at now self.old.held.state) peer.ip) }
+    {
+        self.state.on_data_indication(now, from, peer)
+    }
+
+    /// Takes what is neither a response nor data, and returns the error that it reports of a peer that the
+    /// server permits.
+    fn take_other(&mut self, now: u64, from: Endpoint, datagram: &[u8]) -> Option<PeerError>
+        requires server { is_endpoint from self.old.held.settings.server ≡ true }
+        ensures state { (from : Endpoint) → self.new ≡ passes now 0 (strays from) self.old }
+        ensures error { result ≡ heard_error (at now self.old.held.state) (peer_error datagram.now) }
+    {
+        let Some(error) = peer_error(datagram) else {
+            self.pass(now);
+            return None;
+        };
+        if self.hears(now, from, error.peer) {
+            Some(error)
+        } else {
+            None
+        }
+    }
+
     /// Takes data of a peer.
     fn show<'d>(
         &mut self,
@@ -190,7 +267,7 @@ impl TurnClient {
         data: &'d [u8],
     ) -> Option<PeerData<'d>>
         ensures state { self.new ≡ passes now 0 (gives from peer data.now) self.old }
-        ensures data { output_at now 0 (gives from peer data.now) self.old.held ≡ shown_with result }
+        ensures data { output_at now 0 (gives from peer data.now) self.old.held ≡ data_with result }
     {
         if self.state.on_data_indication(now, from, peer) {
             Some(PeerData { peer, data })
@@ -209,7 +286,7 @@ impl TurnClient {
     ) -> Option<PeerData<'d>>
         ensures state { self.new ≡ passes now 0 (gives_on from channel data.now) self.old }
         ensures data { output_at now 0 (gives_on from channel data.now) self.old.held
-            ≡ shown_with result }
+            ≡ data_with result }
     {
         match self.state.on_channel_data(now, from, channel) {
             Some(peer) => Some(PeerData { peer, data }),
@@ -217,10 +294,13 @@ impl TurnClient {
         }
     }
 
-    /// Takes a datagram that has arrived from an address, and returns the data of a peer, if it is to
-    /// be shown: it came from the server, in a Data indication while the server permits the peer's IP
-    /// address, or on a channel of that very peer (RFC 8656, sections 11.4 and 12.6). The data is
-    /// a part of the datagram.
+    /// Takes a datagram that has arrived from an address, and returns what it brings to the user, if
+    /// anything. It came from the server then, and is one of these:
+    ///
+    /// - data of a peer, in a Data indication while the server permits the peer's IP address, or on a
+    ///   channel of that very peer (RFC 8656, sections 11.4 and 12.6). The data is a part of the datagram;
+    /// - an ICMP error about a packet to a peer, while the server permits its IP address (section 11.6);
+    /// - the token of a reservation, with the response that brings the allocation (section 7.3).
     ///
     /// Over TCP and TLS the datagram is a message that was cut from the stream, as by
     /// `MessageStream::carrying` of `stun_framing`.
@@ -235,7 +315,7 @@ impl TurnClient {
         now: u64,
         from: Endpoint,
         datagram: &'d [u8],
-    ) -> Result<Option<PeerData<'d>>, StunWriteError>
+    ) -> Result<Option<Received<'d>>, StunWriteError>
         ensures state { MatchResult result (λ _. Receives self.old now from datagram.now self.new)
             (λ _. self.new ≡ self.old) }
         ensures err { IfErr result (λ e. e ≡ StunWriteError.OutOfMemory) }
@@ -243,6 +323,8 @@ impl TurnClient {
             (receiving.judged self.old datagram.now) ≡ true) }
         ensures data { IfOk result (λ shown. output_at now 0 (event_at self.old from datagram.now)
             self.old.held ≡ shown_with shown) }
+        ensures news { IfOk result (λ received. news_at self.old now from datagram.now
+            self.new.held.state ≡ news_with received) }
     {
         if !self.is_server(from) {
             self.pass(now);
@@ -254,8 +336,10 @@ impl TurnClient {
                 is_authentic,
                 answer,
             } => {
-                self.respond(now, from, id, is_authentic, answer);
-                Ok(None)
+                match self.take_response(now, from, id, is_authentic, answer, datagram) {
+                    Some(token) => Ok(Some(Received::Reservation(token))),
+                    None => Ok(None),
+                }
             }
             Judged::Challenge {
                 id,
@@ -266,12 +350,20 @@ impl TurnClient {
                 self.take_challenge(alloc, now, from, id, is_authentic, code, retry)?;
                 Ok(None)
             }
-            Judged::PeerData { peer, data } => Ok(self.show(now, from, peer, data)),
-            Judged::ChannelData { channel, data } => Ok(self.show_on(now, from, channel, data)),
-            Judged::Stray => {
-                self.pass(now);
-                Ok(None)
+            Judged::PeerData { peer, data } => match self.show(now, from, peer, data) {
+                Some(given) => Ok(Some(Received::Data(given))),
+                None => Ok(None),
+            },
+            Judged::ChannelData { channel, data } => {
+                match self.show_on(now, from, channel, data) {
+                    Some(given) => Ok(Some(Received::Data(given))),
+                    None => Ok(None),
+                }
             }
+            Judged::Stray => match self.take_other(now, from, datagram) {
+                Some(error) => Ok(Some(Received::Failed(error))),
+                None => Ok(None),
+            },
         }
     }
 }

@@ -5,7 +5,7 @@ ghost use Rattle.turn_attrs.specs.Channels.{channel_of};
 ghost use Rattle.turn_client_machine.specs.Events.{polls, sends};
 ghost use Rattle.turn_client_state.specs.States.{asking_with, data_by, output_at};
 ghost use Rattle.turn_client.specs.Clients.{passes};
-ghost use Rattle.turn_client.specs.Sending.{request_refusal, request_text, greatest_of, IsCarried, IsWritten, Polls, Sends, SendsOn};
+ghost use Rattle.turn_client.specs.Sending.{request_refusal, request_text, greatest_of, IsCarried, IsWritten, Polls, Sends, SendsOn, SendsWhole};
 
 use crate::client::{TurnClient, content, transport};
 use std::alloc::Global;
@@ -167,6 +167,37 @@ impl TurnClient {
         match self.way(now, peer) {
             Some(Way::Channel(number)) => self.carry_on(number, length, head),
             Some(Way::Indication) => self.carry(Carrier::Indication { id, peer }, length, head),
+            None => Ok(None),
+        }
+    }
+
+    /// Writes the same for data that the server sends to the peer with the DF bit set (RFC 8656, sections
+    /// 11.1 and 18.9): in a Send indication with DONT-FRAGMENT, also to a peer with a channel. If a packet is
+    /// too long for a hop, [`TurnClient::on_datagram`] may return the ICMP error of it
+    /// ([`Received::Failed`](crate::Received)).
+    ///
+    /// The settings have to ask for DONT-FRAGMENT ([`Account::dont_fragment`](crate::Account)): a server
+    /// that can't set the bit drops such indications. 40 bytes go before the data for a peer with an IPv4
+    /// address, and 52 with IPv6.
+    ///
+    /// # Errors
+    ///
+    /// Those of [`TurnClient::send`]; in a `TooLarge` both numbers are without the four bytes of
+    /// DONT-FRAGMENT.
+    pub fn send_whole(
+        &mut self,
+        now: u64,
+        peer: Endpoint,
+        length: usize,
+        id: TransactionId,
+        head: &mut [u8],
+    ) -> Result<Option<Head>, StunWriteError>
+        ensures state { (bytes : List ℕ) → self.new ≡ passes now 0 (sends peer bytes) self.old }
+        ensures head { (bytes : List ℕ) → SendsWhole self.old id peer length
+            (output_at now 0 (sends peer bytes) self.old.held) head.old head.new result }
+    {
+        match self.way(now, peer) {
+            Some(_) => self.carry(Carrier::Whole { id, peer }, length, head),
             None => Ok(None),
         }
     }

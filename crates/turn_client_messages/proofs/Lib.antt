@@ -1,3 +1,4 @@
 mod ChannelsLemmas
 mod HeardLemmas
 mod OriginsLemmas
+mod WholeLemmas

@@ -5,5 +5,6 @@ pub mod Requests
 pub mod Pending
 pub mod Judging
 pub mod Reporting
+pub mod PeerErrors
 pub mod Heads
 pub mod Origins

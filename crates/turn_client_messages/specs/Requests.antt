@@ -37,7 +37,8 @@ id_of request = request.id % 2 ^ 96
 
 -- a CreatePermission request names its peer, and the others after it (section 10.1)
 abbrev pub asked : Content → (id : ℕ) → (others : List Endpoint) → Kind → List Attribute
-asked content id others Allocate = allocate_attributes content.lifetime content.family
+asked content id others Allocate =
+    allocate_attributes content.lifetime content.family content.port content.dont_fragment
 asked content id others Refresh = map lifetime_attribute (option_to_list content.lifetime)
 asked content id others Delete = lifetime_attribute 0 ∷ []
 asked content id others (Permit peer) = map (named_peer id) (peer ∷ others)

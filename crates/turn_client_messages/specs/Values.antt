@@ -8,7 +8,8 @@ use Rattle.stun_values.specs.Addresses.{address_fault, address_in, port_in, xor_
 use Rattle.stun_authentication.specs.Identities.{value_of}
 use Rattle.stun_endpoints.specs.declared.endpoints.Endpoint.{Endpoint}
 use Rattle.stun_endpoints.specs.Conversions.{endpoint_of}
-use Rattle.turn_attrs.specs.Turn.{LIFETIME}
+use Rattle.turn_attrs.specs.declared.icmp.IcmpError.{IcmpError}
+use Rattle.turn_attrs.specs.Turn.{ICMP, LIFETIME, RESERVATION_TOKEN, icmp_in}
 
 -- whether a value is an address: a family of 1 or 2, and the length that goes with it
 abbrev pub is_address : List ℕ → Bool
@@ -51,3 +52,14 @@ read_seconds value = if length value == 4 then Some (number value) else None
 
 abbrev pub lifetime_in : List ℕ → Option ℕ
 lifetime_in d = option_and_then read_seconds (value_of d LIFETIME)
+
+-- ---- Eight bytes: a token (RFC 8656, section 18.10), and an ICMP error (section 18.13)
+
+abbrev pub read_eight : List ℕ → Option ℕ
+read_eight value = if length value == 8 then Some (number value) else None
+
+abbrev pub token_in : List ℕ → Option ℕ
+token_in d = option_and_then read_eight (value_of d RESERVATION_TOKEN)
+
+abbrev pub icmp_error_in : List ℕ → Option IcmpError
+icmp_error_in d = option_and_then icmp_in (option_and_then read_eight (value_of d ICMP))

@@ -7,6 +7,7 @@ use Rattle.stun_base.specs.declared.transport.TransportType.{TransportType}
 use Rattle.stun_endpoints.specs.declared.endpoints.Endpoint.{Endpoint}
 use Rattle.stun_values.specs.declared.algorithm.PasswordAlgorithmValue.{PasswordAlgorithmValue}
 use Rattle.turn_client_machine.specs.declared.requests.Request.{Request}
+use Rattle.turn_requests.specs.declared.request.RelayedPort.{RelayedPort}
 use Rattle.turn_requests.specs.Requests.{Credentials, credentials_in}
 use Rattle.turn_client_messages.specs.declared.request.ClientRequest.{ClientRequest}
 use Rattle.turn_client_messages.specs.declared.request.RequestSettings.{RequestSettings}
@@ -24,6 +25,8 @@ asked_of r = record { request = r.request; login = credentials_in r.login }
 pub record Content : Type 0 where
   pub lifetime : Option ℕ
   pub family : Option AddressFamily
+  pub port : RelayedPort
+  pub dont_fragment : Bool
   pub software : Option (List ℕ)
   pub fingerprint : Bool
 
@@ -31,6 +34,8 @@ abbrev pub content_of : RequestSettings → Content
 content_of settings = record {
   lifetime = settings.lifetime;
   family = settings.family;
+  port = settings.port;
+  dont_fragment = settings.dont_fragment;
   software = option_map (λ it. text_bytes it.now) settings.software;
   fingerprint = settings.fingerprint;
 }

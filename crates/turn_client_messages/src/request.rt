@@ -3,7 +3,7 @@
 use stun_types::AddressFamily;
 use stun_types::attribute::Software;
 use turn_client_machine::Request;
-use turn_requests::Login;
+use turn_requests::{Login, RelayedPort};
 
 /// A request of the machine, and the credentials that sign it.
 #[derive(Clone, Copy, Debug)]
@@ -23,6 +23,10 @@ pub struct RequestSettings<'a> {
     pub lifetime: Option<u32>,
     /// The family of the relayed address; `None` leaves it to the server, which gives IPv4.
     pub family: Option<AddressFamily>,
+    /// The port of the relayed address. With a token Allocate requests name no family.
+    pub port: RelayedPort,
+    /// Whether Allocate requests have a DONT-FRAGMENT (RFC 8656, section 18.9).
+    pub dont_fragment: bool,
     /// The name of the client's software (RFC 8489, section 14.14), if it says one.
     pub software: Option<&'a Software>,
     /// Whether requests have a FINGERPRINT.

@@ -4,6 +4,7 @@ ghost use Rattle.std.specs.Prelude.{◌≡◌, length, MatchResult, None, Some};
 ghost use Rattle.turn_client_messages.specs.Heads.{channel_text, carried, Surrounds, head_fault_of};
 ghost use Rattle.turn_attrs.specs.Heads.{channel_head_fault};
 
+use crate::whole::write_whole_head;
 use std::net::SocketAddr;
 use stun_endpoints::Endpoint;
 use stun_types::TransportType;
@@ -17,6 +18,13 @@ pub enum Carrier {
     Channel(Channel),
     /// A Send indication (section 11.1).
     Indication {
+        /// Its transaction ID.
+        id: TransactionId,
+        /// The peer.
+        peer: Endpoint,
+    },
+    /// A Send indication with DONT-FRAGMENT (sections 11.1 and 18.9), which is the first attribute.
+    Whole {
         /// Its transaction ID.
         id: TransactionId,
         /// The peer.
@@ -54,13 +62,14 @@ fn write_channel(
 /// make its length a multiple of 4 (RFC 8656, section 12.5, and RFC 8489, section 14).
 ///
 /// The head has four bytes before ChannelData, and in a Send indication 36 for a peer with an IPv4
-/// address and 48 with IPv6. `greatest` is the length of the greatest message that the transport to
+/// address and 48 with IPv6, and four more with DONT-FRAGMENT. `greatest` is the length of the greatest message that the transport to
 /// the server takes, in bytes: 65507 over UDP and IPv4, 65527 over UDP and IPv6, and on a stream
 /// [`GREATEST_MESSAGE`](stun_types::message::GREATEST_MESSAGE).
 ///
 /// # Errors
 ///
-/// Those of [`write_channel_head`] and [`write_send_head`]. `before` stays as it was then.
+/// Those of [`write_channel_head`] and [`write_send_head`]; a `TooLarge` with DONT-FRAGMENT counts its
+/// four bytes neither in `expected` nor in `actual`. `before` stays as it was then.
 ///
 /// # Examples
 ///
@@ -95,6 +104,9 @@ pub fn write_head(
         }
         Carrier::Indication { id, peer } => {
             write_send_head(id, SocketAddr::from(peer), data_length, greatest, before)
+        }
+        Carrier::Whole { id, peer } => {
+            write_whole_head(id, SocketAddr::from(peer), data_length, greatest, before)
         }
     }
 }

@@ -2,17 +2,19 @@
 
 ghost use Rattle.std.specs.Prelude.{◌≡◌};
 ghost use Rattle.stun_types.specs.Message.{message_bytes};
-ghost use Rattle.turn_client_messages.specs.Values.{read_xored, xored_in, read_plain, of_family, alternate_in, read_seconds, lifetime_in};
+ghost use Rattle.turn_attrs.specs.Turn.{icmp_in};
+ghost use Rattle.turn_client_messages.specs.Values.{read_xored, xored_in, read_plain, of_family, alternate_in, read_seconds, lifetime_in, read_eight, token_in, icmp_error_in};
 
 use byteorder::{BigEndian, ByteOrder};
 use std::net::SocketAddr;
 use stun_authentication::attributes::value_of;
 use stun_endpoints::Endpoint;
 use stun_grammar::attribute_types::ALTERNATE_SERVER;
-use stun_types::attribute::AttributeType;
+use stun_types::attribute::{AttributeType, PackedKind};
 use stun_types::message::{Message, TransactionId};
 use stun_values::{read_address, xor_addr};
-use turn_attrs::attribute_types::LIFETIME;
+use turn_attrs::attribute_types::{ICMP, LIFETIME, RESERVATION_TOKEN};
+use turn_attrs::{IcmpError, IcmpKind};
 
 /// The address in a value that is XORed with the cookie and this transaction ID.
 fn read_xored(value: &[u8], id: TransactionId) -> Option<Endpoint>
@@ -73,4 +75,29 @@ pub(crate) fn lifetime_in(message: &Message<'_>) -> Option<u32>
     ensures { result ≡ lifetime_in (message_bytes message.now) }
 {
     read_seconds(value_of(message, AttributeType(LIFETIME))?)
+}
+
+/// The number in a value of eight bytes.
+fn read_eight(value: &[u8]) -> Option<u64>
+    ensures { result ≡ read_eight value.now }
+{
+    if value.len() == 8 {
+        Some(BigEndian::read_u64(value))
+    } else {
+        None
+    }
+}
+
+/// The token of a reservation (RFC 8656, section 18.10).
+pub(crate) fn token_in(message: &Message<'_>) -> Option<u64>
+    ensures { result ≡ token_in (message_bytes message.now) }
+{
+    read_eight(value_of(message, AttributeType(RESERVATION_TOKEN))?)
+}
+
+/// The ICMP error that is reported (RFC 8656, section 18.13).
+pub(crate) fn icmp_error_in(message: &Message<'_>) -> Option<IcmpError>
+    ensures { result ≡ icmp_error_in (message_bytes message.now) }
+{
+    IcmpKind::from_number(read_eight(value_of(message, AttributeType(ICMP))?)?)
 }

@@ -75,7 +75,8 @@ impl ClientRequest<'_> {
     /// Writes the request: SOFTWARE, if there is one, what it asks for, the credentials, if there are
     /// any, and a FINGERPRINT, if the settings ask for one.
     ///
-    /// An Allocate request asks for the lifetime and the family of the settings, over UDP; a Refresh
+    /// An Allocate request asks for the lifetime, the family, the port and DONT-FRAGMENT of the
+    /// settings, over UDP; a Refresh
     /// request for the lifetime, and one that deletes the allocation for a lifetime of 0; a
     /// CreatePermission request names its peer and, after it, `others` (RFC 8656, section 10.1); and a
     /// ChannelBind request its channel and its peer. Other requests don't use `others`.
@@ -103,10 +104,13 @@ impl ClientRequest<'_> {
     /// use stun_types::prelude::*;
     /// use turn_client_machine::{Kind, Request};
     /// use turn_client_messages::{ClientRequest, RequestSettings};
+    /// use turn_requests::RelayedPort;
     ///
     /// let settings = RequestSettings {
     ///     lifetime: Some(3600),
     ///     family: None,
+    ///     port: RelayedPort::Any,
+    ///     dont_fragment: false,
     ///     software: None,
     ///     fingerprint: false,
     /// };
@@ -133,10 +137,16 @@ impl ClientRequest<'_> {
         ensures memory { result ≡ Err StunWriteError.OutOfMemory
             → TakesMemory (B.state write.old) (content_of settings.now) others.now.items (asked_of self.now) }
     {
-        let (lifetime, family) = (settings.lifetime, settings.family);
+        let lifetime = settings.lifetime;
         match self.request.kind {
             Kind::Allocate => {
-                self.write_asked(&TurnRequest::Allocate { lifetime, family }, settings, write)
+                let asked = TurnRequest::Allocate {
+                    lifetime,
+                    family: settings.family,
+                    port: settings.port,
+                    dont_fragment: settings.dont_fragment,
+                };
+                self.write_asked(&asked, settings, write)
             }
             Kind::Refresh => self.write_asked(&TurnRequest::Refresh { lifetime }, settings, write),
             Kind::Delete => {

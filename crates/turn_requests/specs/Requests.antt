@@ -1,12 +1,12 @@
 -- The requests of a TURN client, as they are written (RFC 8656, sections 7.1, 8.1, 10.1 and 12.1): the
 -- client's software, what is asked for, and the credentials of a login (RFC 8489, section 9.2.5).
-use Rattle.std.specs.Prelude.{◌≡◌, ◌⊎◌, ℕ, ◌+◌, ◌<◌, Bool, List, [], ◌∷◌, ◌++◌, map, length, Option, None, Some, Result, Err, OnOk}
+use Rattle.std.specs.Prelude.{◌≡◌, ◌⊎◌, ℕ, ◌+◌, ◌<◌, Bool, if◌then◌else◌, List, [], ◌∷◌, ◌++◌, map, length, Option, None, Some, Result, Err, OnOk}
 use Rattle.std.specs.Option.{option_map, option_or, option_to_list}
 use Rattle.stun_grammar.specs.declared.error.StunWriteError.{StunWriteError}
 use Rattle.stun_grammar.specs.declared.error.StunWriteError.TheVariants.{OutOfMemory}
 use Rattle.stun_grammar.specs.Attributes.{Attribute, canonical}
 use Rattle.stun_grammar.specs.AttributeTypes.{SOFTWARE}
-use Rattle.stun_grammar.specs.Numbers.{be32}
+use Rattle.stun_grammar.specs.Numbers.{be32, be64}
 use Rattle.stun_grammar.specs.Steps.{Step}
 use Rattle.stun_grammar.specs.Writing.{message_encoding}
 use Rattle.stun_base.specs.declared.transport.AddressFamily.{AddressFamily}
@@ -22,8 +22,10 @@ use Rattle.stun_endpoints.specs.declared.endpoints.Endpoint.{Endpoint}
 use Rattle.stun_endpoints.specs.Conversions.{socket_of}
 use Rattle.turn_attrs.specs.Channels.{channel_number}
 use Rattle.turn_attrs.specs.Heads.{peer_attribute}
-use Rattle.turn_attrs.specs.Turn.{CHANNEL_NUMBER, LIFETIME, REQUESTED_ADDRESS_FAMILY, REQUESTED_TRANSPORT, family_number, protocol_number}
+use Rattle.turn_attrs.specs.Turn.{CHANNEL_NUMBER, DONT_FRAGMENT, EVEN_PORT, LIFETIME, REQUESTED_ADDRESS_FAMILY, REQUESTED_TRANSPORT, RESERVATION_TOKEN, family_number, protocol_number, reserve_number}
 use Rattle.turn_requests.specs.declared.request.Login.{Login}
+use Rattle.turn_requests.specs.declared.request.RelayedPort.{RelayedPort}
+use Rattle.turn_requests.specs.declared.request.RelayedPort.TheVariants.{Any, Even, Reserved}
 use Rattle.turn_requests.specs.declared.request.TurnRequest.{TurnRequest}
 use Rattle.turn_requests.specs.declared.request.TurnRequest.TheVariants.{Allocate, Refresh, CreatePermission, ChannelBind}
 
@@ -31,7 +33,7 @@ use Rattle.turn_requests.specs.declared.request.TurnRequest.TheVariants.{Allocat
 
 -- the methods of section 17
 abbrev pub request_method : TurnRequest → ℕ
-request_method (Allocate lifetime family) = 3
+request_method (Allocate lifetime family port dont_fragment) = 3
 request_method (Refresh lifetime) = 4
 request_method (CreatePermission peers) = 8
 request_method (ChannelBind channel peer) = 9
@@ -59,14 +61,38 @@ channel_attribute channel = canonical CHANNEL_NUMBER (be32 (channel_number chann
 abbrev pub named_peer : (id : ℕ) → Endpoint → Attribute
 named_peer id peer = peer_attribute id (socket_of peer)
 
+-- a token names a relayed address, and so its family: no family goes with it (section 7.1)
+abbrev pub family_beside : RelayedPort → Option AddressFamily → Option AddressFamily
+family_beside Any family = family
+family_beside (Even reserves) family = family
+family_beside (Reserved token) family = None
+
+-- an even port, with the bit R if the next one is to be reserved (section 18.7); or the port of a
+-- reservation, by its token (section 18.10)
+abbrev pub port_attributes : RelayedPort → List Attribute
+port_attributes Any = []
+port_attributes (Even reserves) = canonical EVEN_PORT (reserve_number reserves ∷ []) ∷ []
+port_attributes (Reserved token) = canonical RESERVATION_TOKEN (be64 token) ∷ []
+
+-- whether the server sets the DF bit if the client asks for it (section 18.9)
+abbrev pub whole_attributes : (dont_fragment : Bool) → List Attribute
+whole_attributes dont_fragment = if dont_fragment then canonical DONT_FRAGMENT [] ∷ [] else []
+
+abbrev pub relay_attributes : (family : Option AddressFamily) → RelayedPort
+    → (dont_fragment : Bool) → List Attribute
+relay_attributes family port dont_fragment =
+    map family_attribute (option_to_list (family_beside port family))
+    ++ (port_attributes port ++ whole_attributes dont_fragment)
+
 abbrev pub allocate_attributes : (lifetime : Option ℕ) → (family : Option AddressFamily)
-    → List Attribute
-allocate_attributes lifetime family =
+    → RelayedPort → (dont_fragment : Bool) → List Attribute
+allocate_attributes lifetime family port dont_fragment =
     map lifetime_attribute (option_to_list lifetime)
-    ++ (transport_attribute ∷ map family_attribute (option_to_list family))
+    ++ (transport_attribute ∷ relay_attributes family port dont_fragment)
 
 abbrev pub content : (id : ℕ) → TurnRequest → List Attribute
-content id (Allocate lifetime family) = allocate_attributes lifetime family
+content id (Allocate lifetime family port dont_fragment) =
+    allocate_attributes lifetime family port dont_fragment
 content id (Refresh lifetime) = map lifetime_attribute (option_to_list lifetime)
 content id (CreatePermission peers) = map (named_peer id) peers.now
 content id (ChannelBind channel peer) = channel_attribute channel ∷ named_peer id peer ∷ []

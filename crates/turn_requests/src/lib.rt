@@ -10,4 +10,4 @@ mod finishing;
 mod request;
 mod writing;
 
-pub use request::{Login, TurnRequest};
+pub use request::{Login, RelayedPort, TurnRequest};

@@ -8,6 +8,24 @@ use stun_types::AddressFamily;
 use stun_types::message::{IntegrityKey, Method};
 use turn_attrs::{Channel, methods};
 
+/// Which port the relayed address of an allocation is to have (RFC 8656, section 7.1).
+#[derive(Clone, Copy, Debug, PartialEq, Eq)]
+pub enum RelayedPort {
+    /// Any port.
+    Any,
+    /// An even one, by EVEN-PORT (section 18.7). A server that has none refuses the request with
+    /// 508.
+    Even {
+        /// Whether the server is to reserve the next-higher port, for 30 seconds or longer. Its
+        /// response has the token of the reservation.
+        reserves: bool,
+    },
+    /// The one that the server reserved under this token, by RESERVATION-TOKEN (section 18.10),
+    /// whose eight bytes are a number here, big-endian. The request names no family then: the
+    /// reserved address has that of the first one.
+    Reserved(u64),
+}
+
 /// What a client asks of a TURN server.
 #[derive(Clone, Copy, Debug)]
 pub enum TurnRequest<'a> {
@@ -17,6 +35,11 @@ pub enum TurnRequest<'a> {
         lifetime: Option<u32>,
         /// The family of the relayed address; `None` leaves it to the server, which gives IPv4.
         family: Option<AddressFamily>,
+        /// The port of the relayed address.
+        port: RelayedPort,
+        /// Whether the client will ask for the DF bit, by DONT-FRAGMENT (section 18.9). A server
+        /// that can't set it refuses the request with 420.
+        dont_fragment: bool,
     },
     /// Keeps the allocation, or deletes it (section 8.1).
     Refresh {

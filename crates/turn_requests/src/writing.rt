@@ -37,8 +37,8 @@ impl TurnRequest<'_> {
     /// Writes the request with a transaction ID: SOFTWARE, if there is one, what it asks for, the
     /// credentials, if there are any, and a FINGERPRINT, if `fingerprint` is `true`.
     ///
-    /// What it asks for is LIFETIME, REQUESTED-TRANSPORT and REQUESTED-ADDRESS-FAMILY in an Allocate
-    /// request; LIFETIME in a Refresh request; an XOR-PEER-ADDRESS for each peer in a
+    /// What it asks for is LIFETIME, REQUESTED-TRANSPORT, REQUESTED-ADDRESS-FAMILY, EVEN-PORT or
+    /// RESERVATION-TOKEN, and DONT-FRAGMENT in an Allocate request; LIFETIME in a Refresh request; an XOR-PEER-ADDRESS for each peer in a
     /// CreatePermission request; and CHANNEL-NUMBER and XOR-PEER-ADDRESS in a ChannelBind request. The
     /// credentials are those of
     /// [`answer_challenge_with_key`](stun_authentication::answer_challenge_with_key).
@@ -67,10 +67,15 @@ impl TurnRequest<'_> {
     /// use stun_types::attribute::PasswordAlgorithmValue;
     /// use stun_types::message::{Message, MessageWriteVec, TransactionId};
     /// use stun_types::prelude::*;
-    /// use turn_requests::{Login, TurnRequest};
+    /// use turn_requests::{Login, RelayedPort, TurnRequest};
     ///
     /// // The first Allocate request isn't signed.
-    /// let allocate = TurnRequest::Allocate { lifetime: Some(3600), family: None };
+    /// let allocate = TurnRequest::Allocate {
+    ///     lifetime: Some(3600),
+    ///     family: None,
+    ///     port: RelayedPort::Any,
+    ///     dont_fragment: false,
+    /// };
     /// let mut write = MessageWriteVec::new(alloc);
     /// allocate.write_into(TransactionId::from(1), None, None, false, &mut write)?;
     /// let bytes = b"\x00\x03\x00\x10\x21\x12\xA4\x42\0\0\0\0\0\0\0\0\0\0\0\x01\

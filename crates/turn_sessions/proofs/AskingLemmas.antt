@@ -7,7 +7,7 @@ use Rattle.std.specs.Option.{option_map, option_map_or, option_or, option_to_lis
 use Rattle.stun_grammar.specs.Attributes.{Attribute}
 use Rattle.stun_grammar.specs.AttributeTypes.{SOFTWARE}
 use Rattle.stun_grammar.specs.Headers.{id_field}
-use Rattle.stun_grammar.specs.Numbers.{be32, number}
+use Rattle.stun_grammar.specs.Numbers.{be32, be64, number}
 use Rattle.stun_grammar.specs.ScannedOrder.{has}
 use Rattle.stun_grammar.specs.Showing.{shown}
 use Rattle.stun_base.specs.declared.transport.AddressFamily.{AddressFamily}
@@ -19,16 +19,19 @@ use Rattle.stun_endpoints.specs.declared.endpoints.Endpoint.{Endpoint}
 use Rattle.stun_endpoints.specs.declared.endpoints.Ip.{Ip}
 use Rattle.stun_exchanges.specs.Premises.{is_reserved}
 use Rattle.turn_attrs.specs.Channels.{channel_number}
-use Rattle.turn_attrs.specs.Turn.{ADDITIONAL_ADDRESS_FAMILY, CHANNEL_NUMBER, EVEN_PORT, LIFETIME, REQUESTED_ADDRESS_FAMILY, REQUESTED_TRANSPORT, RESERVATION_TOKEN, XOR_PEER_ADDRESS, family_byte, family_number, protocol_number}
+use Rattle.turn_attrs.specs.Turn.{ADDITIONAL_ADDRESS_FAMILY, CHANNEL_NUMBER, EVEN_PORT, LIFETIME, REQUESTED_ADDRESS_FAMILY, REQUESTED_TRANSPORT, RESERVATION_TOKEN, XOR_PEER_ADDRESS, family_byte, family_number, protocol_number, reserve_number}
 use Rattle.turn_machine.specs.Events.{bind, permit_request, refresh, unfit, unfit_allocate}
 use Rattle.turn_peers.specs.Tunnels.{is_tunnelled}
-use Rattle.turn_requests.specs.Requests.{allocate_attributes, channel_attribute, lifetime_attribute, named_peer, software_attributes}
+use Rattle.turn_client_messages.specs.Views.{Content}
+use Rattle.turn_requests.specs.declared.request.RelayedPort.{RelayedPort}
+use Rattle.turn_requests.specs.declared.request.RelayedPort.TheVariants.{Any, Even, Reserved}
+use Rattle.turn_requests.specs.Requests.{allocate_attributes, channel_attribute, family_beside, lifetime_attribute, named_peer, software_attributes}
 use Rattle.turn_server.specs.declared.sockets.Sockets.{Sockets}
 use Rattle.turn_server.specs.Addresses.{is_address, peer_in, peer_of, peer_read}
 use Rattle.turn_server.specs.Allocating.{UDP, allocate_of, bytes_fault, options_fault, options_of, transport_fault, wanted_for}
 use Rattle.turn_server.specs.Requests.{bind_of, channel_in, permit_of, refresh_of}
-use Rattle.turn_server.specs.Wanted.{Wanted, opening, other}
-use Rattle.turn_sessions.specs.Requests.{wants_of}
+use Rattle.turn_server.specs.Wanted.{Wanted, other}
+use Rattle.turn_sessions.specs.Requests.{even_in, token_in, wanted_of}
 use Rattle.turn_sessions.specs.Sides.{IsTransport}
 use Rattle.turn_sessions.proofs.AddressesLemmas.{AreOfEndpoints, transport_fits, transport_in, transport_read}
 use Rattle.turn_sessions.proofs.ShownLemmas.{IsRead, first_value, shown_values, value_is, values, values_are}
@@ -90,24 +93,92 @@ family_whole (Some IPV6) = refl
 
 -- ---- Allocate
 
-record HasWishes (lifetime : Option ℕ) (family : Option AddressFamily) (ys : List Attribute) : Type 0 where
+number-be64 : (n : ℕ) → n < 2 ^ 64 → number (be64 n) ≡ n
+number-be64 n h = omega arith
+
+-- the values of EVEN-PORT and RESERVATION-TOKEN
+abbrev even_value : RelayedPort → Option (List ℕ)
+even_value Any = None
+even_value (Even reserves) = Some (reserve_number reserves ∷ [])
+even_value (Reserved token) = None
+
+abbrev token_value : RelayedPort → Option (List ℕ)
+token_value Any = None
+token_value (Even reserves) = None
+token_value (Reserved token) = Some (be64 token)
+
+abbrev is_high : ℕ → Bool
+is_high byte = nat_le 128 byte
+
+even_back : (port : RelayedPort) → option_map is_high (option_map first_byte (even_value port)) ≡ even_in port
+even_back Any = refl
+even_back (Even true) = refl
+even_back (Even false) = refl
+even_back (Reserved token) = refl
+
+token_back : (port : RelayedPort) → IfSome (token_in port) (λ token. token < 2 ^ 64) → option_map number (token_value port) ≡ token_in port
+token_back Any few = refl
+token_back (Even reserves) few = refl
+token_back (Reserved token) few = ap (λ (m : ℕ). Some m) (number-be64 token few)
+
+even_whole : (port : RelayedPort) → bad 1 (even_value port) ≡ false
+even_whole Any = refl
+even_whole (Even reserves) = refl
+even_whole (Reserved token) = refl
+
+token_whole : (port : RelayedPort) → bad 8 (token_value port) ≡ false
+token_whole Any = refl
+token_whole (Even reserves) = refl
+token_whole (Reserved token) = refl
+
+record HasWishes (lifetime : Option ℕ) (family : Option AddressFamily) (port : RelayedPort) (ys : List Attribute) : Type 0 where
   lifetime_is : first_value LIFETIME ys ≡ option_map be32 lifetime
-  family_is : first_value REQUESTED_ADDRESS_FAMILY ys ≡ option_map family_value family
+  family_is : first_value REQUESTED_ADDRESS_FAMILY ys ≡ option_map family_value (family_beside port family)
   transport_is : first_value REQUESTED_TRANSPORT ys ≡ Some (be32 (protocol_number 17))
-  even : first_value EVEN_PORT ys ≡ None
-  token : first_value RESERVATION_TOKEN ys ≡ None
+  even_is : first_value EVEN_PORT ys ≡ even_value port
+  token_is : first_value RESERVATION_TOKEN ys ≡ token_value port
   additional : first_value ADDITIONAL_ADDRESS_FAMILY ys ≡ None
 
-wishes : (lifetime : Option ℕ) (family : Option AddressFamily) → HasWishes lifetime family (allocate_attributes lifetime family)
-wishes None None = record { lifetime_is = refl; family_is = refl; transport_is = refl; even = refl; token = refl; additional = refl }
-wishes None (Some f) = record { lifetime_is = refl; family_is = refl; transport_is = refl; even = refl; token = refl; additional = refl }
-wishes (Some n) None = record { lifetime_is = refl; family_is = refl; transport_is = refl; even = refl; token = refl; additional = refl }
-wishes (Some n) (Some f) = record { lifetime_is = refl; family_is = refl; transport_is = refl; even = refl; token = refl; additional = refl }
+wishes : (lifetime : Option ℕ) (family : Option AddressFamily) (port : RelayedPort) (whole : Bool) → HasWishes lifetime family port (allocate_attributes lifetime family port whole)
+wishes None None Any true = record { lifetime_is = refl; family_is = refl; transport_is = refl; even_is = refl; token_is = refl; additional = refl }
+wishes None None Any false = record { lifetime_is = refl; family_is = refl; transport_is = refl; even_is = refl; token_is = refl; additional = refl }
+wishes None None (Even reserves) true = record { lifetime_is = refl; family_is = refl; transport_is = refl; even_is = refl; token_is = refl; additional = refl }
+wishes None None (Even reserves) false = record { lifetime_is = refl; family_is = refl; transport_is = refl; even_is = refl; token_is = refl; additional = refl }
+wishes None None (Reserved token) true = record { lifetime_is = refl; family_is = refl; transport_is = refl; even_is = refl; token_is = refl; additional = refl }
+wishes None None (Reserved token) false = record { lifetime_is = refl; family_is = refl; transport_is = refl; even_is = refl; token_is = refl; additional = refl }
+wishes None (Some f) Any true = record { lifetime_is = refl; family_is = refl; transport_is = refl; even_is = refl; token_is = refl; additional = refl }
+wishes None (Some f) Any false = record { lifetime_is = refl; family_is = refl; transport_is = refl; even_is = refl; token_is = refl; additional = refl }
+wishes None (Some f) (Even reserves) true = record { lifetime_is = refl; family_is = refl; transport_is = refl; even_is = refl; token_is = refl; additional = refl }
+wishes None (Some f) (Even reserves) false = record { lifetime_is = refl; family_is = refl; transport_is = refl; even_is = refl; token_is = refl; additional = refl }
+wishes None (Some f) (Reserved token) true = record { lifetime_is = refl; family_is = refl; transport_is = refl; even_is = refl; token_is = refl; additional = refl }
+wishes None (Some f) (Reserved token) false = record { lifetime_is = refl; family_is = refl; transport_is = refl; even_is = refl; token_is = refl; additional = refl }
+wishes (Some n) None Any true = record { lifetime_is = refl; family_is = refl; transport_is = refl; even_is = refl; token_is = refl; additional = refl }
+wishes (Some n) None Any false = record { lifetime_is = refl; family_is = refl; transport_is = refl; even_is = refl; token_is = refl; additional = refl }
+wishes (Some n) None (Even reserves) true = record { lifetime_is = refl; family_is = refl; transport_is = refl; even_is = refl; token_is = refl; additional = refl }
+wishes (Some n) None (Even reserves) false = record { lifetime_is = refl; family_is = refl; transport_is = refl; even_is = refl; token_is = refl; additional = refl }
+wishes (Some n) None (Reserved token) true = record { lifetime_is = refl; family_is = refl; transport_is = refl; even_is = refl; token_is = refl; additional = refl }
+wishes (Some n) None (Reserved token) false = record { lifetime_is = refl; family_is = refl; transport_is = refl; even_is = refl; token_is = refl; additional = refl }
+wishes (Some n) (Some f) Any true = record { lifetime_is = refl; family_is = refl; transport_is = refl; even_is = refl; token_is = refl; additional = refl }
+wishes (Some n) (Some f) Any false = record { lifetime_is = refl; family_is = refl; transport_is = refl; even_is = refl; token_is = refl; additional = refl }
+wishes (Some n) (Some f) (Even reserves) true = record { lifetime_is = refl; family_is = refl; transport_is = refl; even_is = refl; token_is = refl; additional = refl }
+wishes (Some n) (Some f) (Even reserves) false = record { lifetime_is = refl; family_is = refl; transport_is = refl; even_is = refl; token_is = refl; additional = refl }
+wishes (Some n) (Some f) (Reserved token) true = record { lifetime_is = refl; family_is = refl; transport_is = refl; even_is = refl; token_is = refl; additional = refl }
+wishes (Some n) (Some f) (Reserved token) false = record { lifetime_is = refl; family_is = refl; transport_is = refl; even_is = refl; token_is = refl; additional = refl }
 
-go_together : (lifetime : Option ℕ) (family : Option AddressFamily) → options_fault (record { lifetime = lifetime; family = option_map family_byte family; even = None; token = None; additional = None }) ≡ None
-go_together lifetime None = refl
-go_together lifetime (Some IPV4) = refl
-go_together lifetime (Some IPV6) = refl
+go_together : (lifetime : Option ℕ) (family : Option AddressFamily) (port : RelayedPort)
+    → options_fault (record { lifetime = lifetime; family = option_map family_byte (family_beside port family); even = even_in port; token = token_in port; additional = None }) ≡ None
+go_together lifetime None Any = refl
+go_together lifetime None (Even true) = refl
+go_together lifetime None (Even false) = refl
+go_together lifetime None (Reserved token) = refl
+go_together lifetime (Some IPV4) Any = refl
+go_together lifetime (Some IPV4) (Even true) = refl
+go_together lifetime (Some IPV4) (Even false) = refl
+go_together lifetime (Some IPV4) (Reserved token) = refl
+go_together lifetime (Some IPV6) Any = refl
+go_together lifetime (Some IPV6) (Even true) = refl
+go_together lifetime (Some IPV6) (Even false) = refl
+go_together lifetime (Some IPV6) (Reserved token) = refl
 
 by_tunnel : (tunnelled : Bool) (fault : Option ℕ) (w : Wanted) → fault ≡ None
     → option_map_or (λ (code : ℕ). other (unfit_allocate code)) (if tunnelled then Some 403 else fault) w ≡ (if tunnelled then other (unfit_allocate 403) else w)
@@ -115,38 +186,45 @@ by_tunnel true fault w e = refl
 by_tunnel false None w e = refl
 by_tunnel false (Some code) w e = absurd cc
 
-pub allocate_read : (client : Ip) (sockets : Sockets) (id : ℕ) (lifetime : Option ℕ) (family : Option AddressFamily) (d : List ℕ) → IsFoundIn (allocate_attributes lifetime family) d → id_field d ≡ id
-    → IfSome lifetime (λ seconds. seconds < 2 ^ 32)
-    → allocate_of client sockets d ≡ (if is_tunnelled client then other (unfit_allocate 403) else opening id lifetime (wants_of sockets (unwrap_or (option_map family_byte family) 1)))
-allocate_read client sockets id lifetime family d find id_is few =
-    let w = wishes lifetime family in
+pub allocate_read : (client : Ip) (sockets : Sockets) (id : ℕ) (content : Content) (d : List ℕ) → IsFoundIn (allocate_attributes content.lifetime content.family content.port content.dont_fragment) d → id_field d ≡ id
+    → IfSome content.lifetime (λ seconds. seconds < 2 ^ 32) → IfSome (token_in content.port) (λ token. token < 2 ^ 64)
+    → allocate_of client sockets d ≡ (if is_tunnelled client then other (unfit_allocate 403) else wanted_of sockets id content)
+allocate_read client sockets id content d find id_is few small =
+    let lifetime = content.lifetime in
+    let port = content.port in
+    let family = family_beside port content.family in
+    let w = wishes lifetime content.family port content.dont_fragment in
     let l : value_of d LIFETIME ≡ option_map be32 lifetime = find LIFETIME refl refl ∙ w.lifetime_is in
     let f : value_of d REQUESTED_ADDRESS_FAMILY ≡ option_map family_value family = find REQUESTED_ADDRESS_FAMILY refl refl ∙ w.family_is in
     let t : value_of d REQUESTED_TRANSPORT ≡ Some (be32 (protocol_number 17)) = find REQUESTED_TRANSPORT refl refl ∙ w.transport_is in
-    let e : value_of d EVEN_PORT ≡ None = find EVEN_PORT refl refl ∙ w.even in
-    let k : value_of d RESERVATION_TOKEN ≡ None = find RESERVATION_TOKEN refl refl ∙ w.token in
+    let e : value_of d EVEN_PORT ≡ even_value port = find EVEN_PORT refl refl ∙ w.even_is in
+    let k : value_of d RESERVATION_TOKEN ≡ token_value port = find RESERVATION_TOKEN refl refl ∙ w.token_is in
     let a : value_of d ADDITIONAL_ADDRESS_FAMILY ≡ None = find ADDITIONAL_ADDRESS_FAMILY refl refl ∙ w.additional in
     let udp : transport_fault d ≡ None = ap (λ (o : Option (List ℕ)). if bad 4 o then Some 400 else option_map_or (λ (p : ℕ). if p == UDP then None else Some 442) (option_map first_byte o) (Some 400)) t in
     let lifetime_whole : bad 4 (value_of d LIFETIME) ≡ false = ap (bad 4) l ∙ seconds_whole lifetime in
     let other_whole : bad 4 (value_of d REQUESTED_ADDRESS_FAMILY) ≡ false = ap (bad 4) f ∙ family_whole family in
+    let port_whole : bad 1 (value_of d EVEN_PORT) ≡ false = ap (bad 1) e ∙ even_whole port in
+    let kept_whole : bad 8 (value_of d RESERVATION_TOKEN) ≡ false = ap (bad 8) k ∙ token_whole port in
     let seconds : option_map number (value_of d LIFETIME) ≡ lifetime = ap (option_map number) l ∙ seconds_back lifetime few in
     let named : option_map first_byte (value_of d REQUESTED_ADDRESS_FAMILY) ≡ option_map family_byte family = ap (option_map first_byte) f ∙ family_back family in
+    let even : option_map is_high (option_map first_byte (value_of d EVEN_PORT)) ≡ even_in port = ap (λ (o : Option (List ℕ)). option_map is_high (option_map first_byte o)) e ∙ even_back port in
+    let token : option_map number (value_of d RESERVATION_TOKEN) ≡ token_in port = ap (option_map number) k ∙ token_back port small in
     let fault : bytes_fault d ≡ None =
-    (λ i. option_or (udp i) (if lifetime_whole i || (other_whole i || (bad 1 (e i) || (bad 8 (k i) || bad 4 (a i)))) then Some 400
+    (λ i. option_or (udp i) (if lifetime_whole i || (other_whole i || (port_whole i || (kept_whole i || bad 4 (a i)))) then Some 400
     else options_fault (record {
       lifetime = seconds i;
       family = named i;
-      even = option_map (λ (byte : ℕ). nat_le 128 byte) (option_map first_byte (e i));
-      token = option_map number (k i);
+      even = even i;
+      token = token i;
       additional = option_map first_byte (a i);
     })))
-    ∙ go_together lifetime family in
+    ∙ go_together lifetime content.family port in
     by_tunnel (is_tunnelled client) (bytes_fault d) (wanted_for sockets (id_field d) (options_of d)) fault
     ∙ (λ i. if is_tunnelled client then other (unfit_allocate 403) else wanted_for sockets (id_is i) (record {
       lifetime = seconds i;
       family = named i;
-      even = option_map (λ (byte : ℕ). nat_le 128 byte) (option_map first_byte (e i));
-      token = option_map number (k i);
+      even = even i;
+      token = token i;
       additional = option_map first_byte (a i);
     }))
 

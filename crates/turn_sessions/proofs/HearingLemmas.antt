@@ -46,7 +46,14 @@ use Rattle.turn_server.specs.Judging.{asked, judge}
 use Rattle.turn_server.specs.Wanted.{Wanted, opening, other}
 use Rattle.turn_sessions.specs.Answers.{IsSuccess, says}
 use Rattle.turn_sessions.specs.Hearing.{Host, IsAnswered, IsMet, Sent, account_at, response_text, state_there, text_sent}
-use Rattle.turn_sessions.specs.Requests.{family_of, wanted_as, wants_of}
+use Rattle.turn_sessions.specs.Requests.{even_in, is_plain, token_in, wanted_as, wanted_of, wants_of}
+use Rattle.turn_requests.specs.declared.request.RelayedPort.{RelayedPort}
+use Rattle.turn_requests.specs.declared.request.RelayedPort.TheVariants.{Any, Even, Reserved}
+use Rattle.turn_requests.specs.Requests.{family_beside}
+use Rattle.turn_attrs.specs.Turn.{family_byte}
+use Rattle.stun_base.specs.declared.transport.AddressFamily.{AddressFamily}
+use Rattle.turn_server.specs.Allocating.{wanted_for, wants_for}
+use Rattle.turn_server.specs.declared.sockets.Sockets.{Sockets}
 use Rattle.turn_sessions.specs.Sides.{IsTransport}
 use Rattle.turn_sessions.proofs.AddressesLemmas.{AreOfEndpoints}
 use Rattle.turn_sessions.proofs.AnswersLemmas.{AreHeard, IsSaid, success_said}
@@ -69,7 +76,7 @@ algorithm_of sent = signing_algorithm sent.login.retry
 judged_as : Laws → (sent : Sent) (host : Host) (key : UserKey) → IsMet sent host key → (kind : Kind) → sent.asked.request.kind ≡ kind
     → judge host.setup.last_channel host.setup.supports_dont_fragment host.site (text_sent sent) ≡ asked (account_at host sent) (wanted_as host.site sent.content (id_of sent.asked.request) sent.others kind) key (algorithm_of sent)
 judged_as laws sent host key met kind is =
-    requests_read laws.sockets laws.accepted host.setup.last_channel host.setup.supports_dont_fragment host.site sent.content sent.others sent.asked sent.login sent.user key met.has_login met.login met.admitted met.in_fields met.named met.fits
+    requests_read laws.sockets laws.accepted host.setup.last_channel host.setup.supports_dont_fragment host.site sent.content sent.others sent.asked sent.login sent.user key met.has_login met.login met.admitted met.in_fields met.known met.named met.fits
     ∙ ap (λ (k : Kind). asked (account_at host sent) (wanted_as host.site sent.content (id_of sent.asked.request) sent.others k) key (algorithm_of sent)) is
 
 -- a request without a token, by its output
@@ -223,12 +230,21 @@ want_family spare numbers wants want is = elim (family_in 1 numbers.ipv4 spare w
   ]
 ]
 
-pub open_heard : Laws → (sent : Sent) (host : Host) (key : UserKey) (want : Want) (offer : Offer) → IsMet sent host key → sent.asked.request.kind ≡ Allocate → is_tunnelled host.site.client ≡ false
-    → wants_there (has_numbers (state_there host)) host.numbers (wants_of host.site.sockets (family_of sent.content)) ≡ want ∷ [] → IsFit host.setup host.tuple (account_at host sent) want offer (state_there host) → IsTransport offer.address
+-- a request that reserves nothing asks for sockets that are ready
+plainly : (sockets : Sockets) (id : ℕ) (lifetime : Option ℕ) (family : Option AddressFamily) (port : RelayedPort) → is_plain port ≡ true
+    → wanted_for sockets id (record { lifetime = lifetime; family = option_map family_byte (family_beside port family); even = even_in port; token = token_in port; additional = None })
+    ≡ opening id lifetime (wants_for sockets (record { lifetime = lifetime; family = option_map family_byte (family_beside port family); even = even_in port; token = token_in port; additional = None }))
+plainly sockets id lifetime family Any plain = refl
+plainly sockets id lifetime family (Even true) plain = absurd cc
+plainly sockets id lifetime family (Even false) plain = refl
+plainly sockets id lifetime family (Reserved token) plain = absurd cc
+
+pub open_heard : Laws → (sent : Sent) (host : Host) (key : UserKey) (want : Want) (offer : Offer) → IsMet sent host key → sent.asked.request.kind ≡ Allocate → is_tunnelled host.site.client ≡ false → is_plain sent.content.port ≡ true
+    → wants_there (has_numbers (state_there host)) host.numbers (wants_of host.site.sockets sent.content) ≡ want ∷ [] → IsFit host.setup host.tuple (account_at host sent) want offer (state_there host) → IsTransport offer.address
     → IsAnswered sent host key (Opened offer.address host.tuple.client (granted_for sent.content.lifetime host.setup.greatest_lifetime))
-open_heard laws sent host key want offer met is direct one fit its =
+open_heard laws sent host key want offer met is direct plain one fit its =
     let id = id_of sent.asked.request in
-    let wants = wants_of host.site.sockets (family_of sent.content) in
+    let wants = wants_of host.site.sockets sent.content in
     let s = state_there host in
     let lifetime = granted_for sent.content.lifetime host.setup.greatest_lifetime in
     let account = account_at host sent in
@@ -236,7 +252,7 @@ open_heard laws sent host key want offer met is direct one fit its =
     let answer = allocated (given_of relay ∷ []) lifetime [] in
     let wanted = opening id sent.content.lifetime wants in
     heard_as laws sent host key met Allocate is wanted (allocate id sent.content.lifetime (want ∷ [])) answer
-    (cond-false (is_tunnelled host.site.client) (other (unfit_allocate 403)) wanted direct)
+    (cond-false (is_tunnelled host.site.client) (other (unfit_allocate 403)) (wanted_of host.site.sockets id sent.content) direct ∙ plainly host.site.sockets id sent.content.lifetime sent.content.family sent.content.port plain)
     (ap (λ (ws : List Want). answer_act host.held.state.next None key (algorithm_of sent) None (step host.setup host.rules host.held.state host.now (asks host.tuple account (allocate id sent.content.lifetime ws))).output) one)
     (ap (λ (x : Step). x.output) (one_granted host.setup host.rules s host.tuple account id sent.content.lifetime want offer fit))
     (record {

@@ -47,7 +47,9 @@ use Rattle.turn_client_machine.specs.declared.requests.Request.{Request}
 use Rattle.turn_client_messages.specs.Requests.{asked as asked_attributes, attributes_of, id_of, method_for, text_of, type_for}
 use Rattle.turn_client_messages.specs.Views.{Asked, Content}
 use Rattle.turn_attrs.specs.Turn.{XOR_PEER_ADDRESS}
-use Rattle.turn_requests.specs.Requests.{Credentials, allocate_attributes, ended, lifetime_attribute, named_peer, software_attributes}
+use Rattle.turn_requests.specs.declared.request.RelayedPort.{RelayedPort}
+use Rattle.turn_requests.specs.declared.request.RelayedPort.TheVariants.{Any, Even, Reserved}
+use Rattle.turn_requests.specs.Requests.{Credentials, allocate_attributes, ended, family_attribute, family_beside, lifetime_attribute, named_peer, port_attributes, relay_attributes, software_attributes, transport_attribute, whole_attributes}
 use Rattle.turn_server.specs.Accounts.{account_of}
 use Rattle.turn_server.specs.Comprehended.{comprehended}
 use Rattle.turn_server.specs.Judging.{Site, asked, binding, by_class, decided_as, dropped, judge, refused, unknown}
@@ -55,7 +57,7 @@ use Rattle.turn_server.specs.Requests.{asks_table, request_of}
 use Rattle.turn_server.specs.Wanted.{Wanted, other}
 use Rattle.turn_sessions.specs.Answers.{IsOf}
 use Rattle.turn_sessions.specs.Requests.{wanted_as, wanted_by}
-use Rattle.turn_sessions.specs.Sides.{Admits, Fits, IsInFields, IsLogin, IsNamed, IsTransport}
+use Rattle.turn_sessions.specs.Sides.{Admits, Fits, IsInFields, IsKnown, IsLogin, IsNamed, IsTransport}
 use Rattle.turn_sessions.proofs.AddressesLemmas.{AreOfEndpoints, transport_added}
 use Rattle.turn_sessions.proofs.AskingLemmas.{allocate_read, bind_read, found_in, peers_in, permit_read, refresh_read}
 use Rattle.turn_sessions.proofs.JudgingLemmas.{judge_is}
@@ -116,30 +118,115 @@ any_both p xs ys one two = list_any-append p xs ys ∙ or_from (list_any p xs) (
 
 -- ---- The client's attributes
 
-allocate_own : (lifetime : Option ℕ) (family : Option AddressFamily) → list_any is_reserved (types (allocate_attributes lifetime family)) ≡ false
-allocate_own None None = refl
-allocate_own None (Some f) = refl
-allocate_own (Some n) None = refl
-allocate_own (Some n) (Some f) = refl
+allocate_own : (lifetime : Option ℕ) (family : Option AddressFamily) (port : RelayedPort) (whole : Bool) → list_any is_reserved (types (allocate_attributes lifetime family port whole)) ≡ false
+allocate_own None None Any true = refl
+allocate_own None None Any false = refl
+allocate_own None None (Even reserves) true = refl
+allocate_own None None (Even reserves) false = refl
+allocate_own None None (Reserved token) true = refl
+allocate_own None None (Reserved token) false = refl
+allocate_own None (Some f) Any true = refl
+allocate_own None (Some f) Any false = refl
+allocate_own None (Some f) (Even reserves) true = refl
+allocate_own None (Some f) (Even reserves) false = refl
+allocate_own None (Some f) (Reserved token) true = refl
+allocate_own None (Some f) (Reserved token) false = refl
+allocate_own (Some n) None Any true = refl
+allocate_own (Some n) None Any false = refl
+allocate_own (Some n) None (Even reserves) true = refl
+allocate_own (Some n) None (Even reserves) false = refl
+allocate_own (Some n) None (Reserved token) true = refl
+allocate_own (Some n) None (Reserved token) false = refl
+allocate_own (Some n) (Some f) Any true = refl
+allocate_own (Some n) (Some f) Any false = refl
+allocate_own (Some n) (Some f) (Even reserves) true = refl
+allocate_own (Some n) (Some f) (Even reserves) false = refl
+allocate_own (Some n) (Some f) (Reserved token) true = refl
+allocate_own (Some n) (Some f) (Reserved token) false = refl
 
-allocate_known : (sets_df : Bool) (lifetime : Option ℕ) (family : Option AddressFamily) → list_any (is_other (comprehended sets_df)) (types (allocate_attributes lifetime family)) ≡ false
-allocate_known true None None = refl
-allocate_known true None (Some f) = refl
-allocate_known true (Some n) None = refl
-allocate_known true (Some n) (Some f) = refl
-allocate_known false None None = refl
-allocate_known false None (Some f) = refl
-allocate_known false (Some n) None = refl
-allocate_known false (Some n) (Some f) = refl
+unset : (true ≡ true → false ≡ true) → ⊥
+unset is = cc (is refl)
 
-allocate_added : (lifetime : Option ℕ) (family : Option AddressFamily) → AllByRecursion IsAdded (allocate_attributes lifetime family)
-allocate_added None None = (record { written = refl; type_fits = lit< tt; value_fits = lit< tt; plain = refl }, tt)
-allocate_added None (Some f) = (record { written = refl; type_fits = lit< tt; value_fits = lit< tt; plain = refl }, (record { written = refl; type_fits = lit< tt; value_fits = lit< tt; plain = refl }, tt))
-allocate_added (Some n) None = (record { written = refl; type_fits = lit< tt; value_fits = lit< tt; plain = refl }, (record { written = refl; type_fits = lit< tt; value_fits = lit< tt; plain = refl }, tt))
-allocate_added (Some n) (Some f) = (
-  record { written = refl; type_fits = lit< tt; value_fits = lit< tt; plain = refl },
-  (record { written = refl; type_fits = lit< tt; value_fits = lit< tt; plain = refl }, (record { written = refl; type_fits = lit< tt; value_fits = lit< tt; plain = refl }, tt)),
-)
+-- DONT-FRAGMENT is known to a server that sets the DF bit
+allocate_known : (sets_df : Bool) (lifetime : Option ℕ) (family : Option AddressFamily) (port : RelayedPort) (whole : Bool) → (whole ≡ true → sets_df ≡ true)
+    → list_any (is_other (comprehended sets_df)) (types (allocate_attributes lifetime family port whole)) ≡ false
+allocate_known true None None Any true is = refl
+allocate_known false None None Any true is = absurd (unset is)
+allocate_known true None None Any false is = refl
+allocate_known false None None Any false is = refl
+allocate_known true None None (Even reserves) true is = refl
+allocate_known false None None (Even reserves) true is = absurd (unset is)
+allocate_known true None None (Even reserves) false is = refl
+allocate_known false None None (Even reserves) false is = refl
+allocate_known true None None (Reserved token) true is = refl
+allocate_known false None None (Reserved token) true is = absurd (unset is)
+allocate_known true None None (Reserved token) false is = refl
+allocate_known false None None (Reserved token) false is = refl
+allocate_known true None (Some f) Any true is = refl
+allocate_known false None (Some f) Any true is = absurd (unset is)
+allocate_known true None (Some f) Any false is = refl
+allocate_known false None (Some f) Any false is = refl
+allocate_known true None (Some f) (Even reserves) true is = refl
+allocate_known false None (Some f) (Even reserves) true is = absurd (unset is)
+allocate_known true None (Some f) (Even reserves) false is = refl
+allocate_known false None (Some f) (Even reserves) false is = refl
+allocate_known true None (Some f) (Reserved token) true is = refl
+allocate_known false None (Some f) (Reserved token) true is = absurd (unset is)
+allocate_known true None (Some f) (Reserved token) false is = refl
+allocate_known false None (Some f) (Reserved token) false is = refl
+allocate_known true (Some n) None Any true is = refl
+allocate_known false (Some n) None Any true is = absurd (unset is)
+allocate_known true (Some n) None Any false is = refl
+allocate_known false (Some n) None Any false is = refl
+allocate_known true (Some n) None (Even reserves) true is = refl
+allocate_known false (Some n) None (Even reserves) true is = absurd (unset is)
+allocate_known true (Some n) None (Even reserves) false is = refl
+allocate_known false (Some n) None (Even reserves) false is = refl
+allocate_known true (Some n) None (Reserved token) true is = refl
+allocate_known false (Some n) None (Reserved token) true is = absurd (unset is)
+allocate_known true (Some n) None (Reserved token) false is = refl
+allocate_known false (Some n) None (Reserved token) false is = refl
+allocate_known true (Some n) (Some f) Any true is = refl
+allocate_known false (Some n) (Some f) Any true is = absurd (unset is)
+allocate_known true (Some n) (Some f) Any false is = refl
+allocate_known false (Some n) (Some f) Any false is = refl
+allocate_known true (Some n) (Some f) (Even reserves) true is = refl
+allocate_known false (Some n) (Some f) (Even reserves) true is = absurd (unset is)
+allocate_known true (Some n) (Some f) (Even reserves) false is = refl
+allocate_known false (Some n) (Some f) (Even reserves) false is = refl
+allocate_known true (Some n) (Some f) (Reserved token) true is = refl
+allocate_known false (Some n) (Some f) (Reserved token) true is = absurd (unset is)
+allocate_known true (Some n) (Some f) (Reserved token) false is = refl
+allocate_known false (Some n) (Some f) (Reserved token) false is = refl
+
+all_added : (xs ys : List Attribute) → AllByRecursion IsAdded xs → AllByRecursion IsAdded ys → AllByRecursion IsAdded (xs ++ ys)
+all_added [] ys one two = two
+all_added (x ∷ xs) ys one two = (one.0, all_added xs ys one.1 two)
+
+seconds_added : (lifetime : Option ℕ) → AllByRecursion IsAdded (map lifetime_attribute (option_to_list lifetime))
+seconds_added None = tt
+seconds_added (Some n) = (record { written = refl; type_fits = lit< tt; value_fits = lit< tt; plain = refl }, tt)
+
+family_added : (family : Option AddressFamily) → AllByRecursion IsAdded (map family_attribute (option_to_list family))
+family_added None = tt
+family_added (Some f) = (record { written = refl; type_fits = lit< tt; value_fits = lit< tt; plain = refl }, tt)
+
+port_added : (port : RelayedPort) → AllByRecursion IsAdded (port_attributes port)
+port_added Any = tt
+port_added (Even reserves) = (record { written = refl; type_fits = lit< tt; value_fits = lit< tt; plain = refl }, tt)
+port_added (Reserved token) = (record { written = refl; type_fits = lit< tt; value_fits = lit< tt; plain = refl }, tt)
+
+whole_added : (whole : Bool) → AllByRecursion IsAdded (whole_attributes whole)
+whole_added false = tt
+whole_added true = (record { written = refl; type_fits = lit< tt; value_fits = lit< tt; plain = refl }, tt)
+
+allocate_added : (lifetime : Option ℕ) (family : Option AddressFamily) (port : RelayedPort) (whole : Bool) → AllByRecursion IsAdded (allocate_attributes lifetime family port whole)
+allocate_added lifetime family port whole =
+    all_added (map lifetime_attribute (option_to_list lifetime)) (transport_attribute ∷ relay_attributes family port whole) (seconds_added lifetime) (
+      record { written = refl; type_fits = lit< tt; value_fits = lit< tt; plain = refl },
+      all_added (map family_attribute (option_to_list (family_beside port family))) (port_attributes port ++ whole_attributes whole) (family_added (family_beside port family))
+          (all_added (port_attributes port) (whole_attributes whole) (port_added port) (whole_added whole)),
+    )
 
 refresh_own : (lifetime : Option ℕ) → list_any is_reserved (types (map lifetime_attribute (option_to_list lifetime))) ≡ false
 refresh_own None = refl
@@ -170,24 +257,24 @@ peers_added id [] all = tt
 peers_added id (peer ∷ peers) all = (transport_added XOR_PEER_ADDRESS id peer all.0 (lit< tt) refl, peers_added id peers all.1)
 
 asked_own : (content : Content) (id : ℕ) (others : List Endpoint) (k : Kind) → list_any is_reserved (types (asked_attributes content id others k)) ≡ false
-asked_own content id others Allocate = allocate_own content.lifetime content.family
+asked_own content id others Allocate = allocate_own content.lifetime content.family content.port content.dont_fragment
 asked_own content id others Refresh = refresh_own content.lifetime
 asked_own content id others Delete = refl
 asked_own content id others (Permit peer) = peers_own id (peer ∷ others)
 asked_own content id others (Bind channel peer) = refl
 
-asked_known : (sets_df : Bool) (content : Content) (id : ℕ) (others : List Endpoint) (k : Kind) → list_any (is_other (comprehended sets_df)) (types (asked_attributes content id others k)) ≡ false
-asked_known sets_df content id others Allocate = allocate_known sets_df content.lifetime content.family
-asked_known sets_df content id others Refresh = refresh_known sets_df content.lifetime
-asked_known true content id others Delete = refl
-asked_known true content id others (Permit peer) = peers_known true id (peer ∷ others)
-asked_known true content id others (Bind channel peer) = refl
-asked_known false content id others Delete = refl
-asked_known false content id others (Permit peer) = peers_known false id (peer ∷ others)
-asked_known false content id others (Bind channel peer) = refl
+asked_known : (sets_df : Bool) (content : Content) (id : ℕ) (others : List Endpoint) (k : Kind) → IsKnown sets_df content → list_any (is_other (comprehended sets_df)) (types (asked_attributes content id others k)) ≡ false
+asked_known sets_df content id others Allocate is = allocate_known sets_df content.lifetime content.family content.port content.dont_fragment is
+asked_known sets_df content id others Refresh is = refresh_known sets_df content.lifetime
+asked_known true content id others Delete is = refl
+asked_known true content id others (Permit peer) is = peers_known true id (peer ∷ others)
+asked_known true content id others (Bind channel peer) is = refl
+asked_known false content id others Delete is = refl
+asked_known false content id others (Permit peer) is = peers_known false id (peer ∷ others)
+asked_known false content id others (Bind channel peer) is = refl
 
 asked_added : (content : Content) (id : ℕ) (others : List Endpoint) (k : Kind) → IsNamed others k → AllByRecursion IsAdded (asked_attributes content id others k)
-asked_added content id others Allocate is = allocate_added content.lifetime content.family
+asked_added content id others Allocate is = allocate_added content.lifetime content.family content.port content.dont_fragment
 asked_added content id others Refresh is = refresh_added content.lifetime
 asked_added content id others Delete is = refresh_added (Some 0)
 asked_added content id others (Permit peer) is = peers_added id (peer ∷ others) is
@@ -228,7 +315,7 @@ wanted_is : AreOfEndpoints → (site : Site) (content : Content) (id : ℕ) (oth
     → IsRead (type_for k) id (software_attributes content.software ++ asked_attributes content id others k) ends d → ((type : ℕ) → is_reserved type ≡ false → has type ends ≡ false)
     → request_of site.client site.sockets (method_of (type_for k)) d ≡ wanted_as site content id others k
 wanted_is sockets site content id others Allocate ends d fields is r plain =
-    allocate_read site.client site.sockets id content.lifetime content.family d (found_in content.software (type_for Allocate) id _ ends d r plain) r.id_is fields.lifetime
+    allocate_read site.client site.sockets id content d (found_in content.software (type_for Allocate) id _ ends d r plain) r.id_is fields.lifetime fields.token
 wanted_is sockets site content id others Refresh ends d fields is r plain =
     ap (λ (q : _). other q) (refresh_read content.lifetime d (found_in content.software (type_for Refresh) id _ ends d r plain) fields.lifetime)
 wanted_is sockets site content id others Delete ends d fields is r plain =
@@ -250,9 +337,9 @@ own_is content others request fields is room =
       own = any-append is_reserved (software_attributes content.software) own_ones (software_own content.software) (asked_own content (id_of request) others request.kind);
     }
 
-before_known : (sets_df : Bool) (content : Content) (others : List Endpoint) (request : Request) → list_any (is_other (comprehended sets_df)) (types (attributes_of content others request)) ≡ false
-before_known sets_df content others request =
-    any-append (is_other (comprehended sets_df)) (software_attributes content.software) (asked_attributes content (id_of request) others request.kind) (software_known sets_df content.software) (asked_known sets_df content (id_of request) others request.kind)
+before_known : (sets_df : Bool) (content : Content) (others : List Endpoint) (request : Request) → IsKnown sets_df content → list_any (is_other (comprehended sets_df)) (types (attributes_of content others request)) ≡ false
+before_known sets_df content others request is =
+    any-append (is_other (comprehended sets_df)) (software_attributes content.software) (asked_attributes content (id_of request) others request.kind) (software_known sets_df content.software) (asked_known sets_df content (id_of request) others request.kind is)
 
 abbrev signed_ends : Retry → (name : List ℕ) → (fingerprint : Bool) → List ℕ
 signed_ends retry name fingerprint = types (credentials retry name) ++ ending_types (signing_algorithm retry) fingerprint
@@ -306,10 +393,10 @@ decided_is last_channel sets_df site k id xs ends d decision r decides =
     ∙ (λ i. if has_method.no_binding i then binding else (if has_method.asks i then decided_as sets_df site m d (decides i) else dropped))
 
 request_read : AreOfEndpoints → Accepts → (last_channel : ℕ) (sets_df : Bool) (site : Site) (content : Content) (others : List Endpoint) (request : Request) (login : Credentials) (user : User) (key : UserKey)
-    → Admits site login user key content.fingerprint → IsInFields content → IsNamed others request.kind → Fits (signed_text content others login.retry user request)
+    → Admits site login user key content.fingerprint → IsInFields content → IsKnown sets_df content → IsNamed others request.kind → Fits (signed_text content others login.retry user request)
     → judge last_channel sets_df site (signed_text content others login.retry user request)
     ≡ asked (account_of site.realm (asked_identity login.retry.asked user.name)) (wanted_by site content others request) key (signing_algorithm login.retry)
-request_read sockets accepts last_channel sets_df site content others request login user key admits fields is room =
+request_read sockets accepts last_channel sets_df site content others request login user key admits fields known is room =
     let k = request.kind in
     let kind = type_for k in
     let id = id_of request in
@@ -327,7 +414,7 @@ request_read sockets accepts last_channel sets_df site content others request lo
     λ type clear. any_both (λ t. eqb t type) (types credits) (ending_types a fingerprint)
     (unreserved type (types credits) (parts_reserved who retry.asked.realm retry.asked.nonce retry.asked.list retry.algorithm) clear) (unreserved type (ending_types a fingerprint) (ends_reserved a fingerprint) clear) in
     let none : unknown_types (comprehended sets_df) d ≡ [] =
-    none_unknown (comprehended sets_df) kind id before ends d it.shows (before_known sets_df content others request)
+    none_unknown (comprehended sets_df) kind id before ends d it.shows (before_known sets_df content others request known)
     (any_both (is_other (comprehended sets_df)) (types credits) (ending_types a fingerprint) (parts_known sets_df who retry.asked.realm retry.asked.nonce retry.asked.list retry.algorithm) (ends_known sets_df a fingerprint)) in
     let accepted : long_term site.policy site.realm site.nonces site.keys d ≡ accept who key a a =
     ap (λ (realm : List ℕ). long_term site.policy realm site.nonces site.keys d) (sym admits.realm_is)
@@ -346,13 +433,13 @@ text_is content others r login user has_login is =
     ∙ (λ i. message_encoding kind id (answering_attributes content.fingerprint login.retry (is.name_is i) (is.key_is i) kind id before))
 
 pub requests_read : AreOfEndpoints → Accepts → (last_channel : ℕ) (sets_df : Bool) (site : Site) (content : Content) (others : List Endpoint) (r : Asked) (login : Credentials) (user : User) (key : UserKey)
-    → r.login ≡ Some login → IsLogin login user → Admits site login user key content.fingerprint → IsInFields content → IsNamed others r.request.kind → Fits (text_of content others r)
+    → r.login ≡ Some login → IsLogin login user → Admits site login user key content.fingerprint → IsInFields content → IsKnown sets_df content → IsNamed others r.request.kind → Fits (text_of content others r)
     → judge last_channel sets_df site (text_of content others r)
     ≡ asked (account_of site.realm (asked_identity login.retry.asked user.name)) (wanted_by site content others r.request) key (signing_algorithm login.retry)
-requests_read sockets accepts last_channel sets_df site content others r login user key has_login is admits fields names room =
+requests_read sockets accepts last_channel sets_df site content others r login user key has_login is admits fields known names room =
     let text = text_is content others r login user has_login is in
     ap (judge last_channel sets_df site) text
-    ∙ request_read sockets accepts last_channel sets_df site content others r.request login user key admits fields names (subst Fits text room)
+    ∙ request_read sockets accepts last_channel sets_df site content others r.request login user key admits fields known names (subst Fits text room)
 
 -- ---- Which request it is
 

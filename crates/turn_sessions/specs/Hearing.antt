@@ -26,7 +26,7 @@ use Rattle.turn_server.specs.Accounts.{account_of}
 use Rattle.turn_server.specs.Acting.{Used, act, responds as responds_with}
 use Rattle.turn_server.specs.Answers.{answer_text}
 use Rattle.turn_server.specs.Judging.{Site}
-use Rattle.turn_sessions.specs.Sides.{Admits, Fits, IsInFields, IsLogin, IsNamed, IsTransport}
+use Rattle.turn_sessions.specs.Sides.{Admits, Fits, IsInFields, IsKnown, IsLogin, IsNamed, IsTransport}
 
 -- ---- Both sides
 
@@ -80,6 +80,7 @@ pub record IsMet (sent : Sent) (host : Host) (key : UserKey) : Type 0 where
   pub admitted : Admits host.site sent.login sent.user key sent.content.fingerprint
   pub works : WorksAs key.bytes (signing_algorithm sent.login.retry) sent.login.key
   pub in_fields : IsInFields sent.content
+  pub known : IsKnown host.setup.supports_dont_fragment sent.content
   pub named : IsNamed sent.others sent.asked.request.kind
   pub fits : Fits (text_sent sent)
   pub client : IsTransport host.tuple.client

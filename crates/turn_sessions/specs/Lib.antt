@@ -1,5 +1,5 @@
-pub mod Sides
 pub mod Requests
+pub mod Sides
 pub mod Answers
 pub mod Crossing
 pub mod Hearing

@@ -18,6 +18,7 @@ use Rattle.turn_client_machine.specs.declared.requests.Kind.TheVariants.{Allocat
 use Rattle.turn_client_messages.specs.Views.{Content}
 use Rattle.turn_requests.specs.Requests.{Credentials}
 use Rattle.turn_server.specs.Judging.{Site}
+use Rattle.turn_sessions.specs.Requests.{token_in}
 
 -- ---- Addresses and numbers that fit their fields
 
@@ -39,11 +40,16 @@ IsNamed others Delete = Unit {0}
 IsNamed others (Permit peer) = AllByRecursion IsTransport (peer ∷ others)
 IsNamed others (Bind channel peer) = IsChannel channel × IsTransport peer
 
--- and what all requests of a client have: lifetimes have 32 bits, and a SOFTWARE at most 763 bytes (RFC
--- 8489, section 14.14)
+-- and what all requests of a client have: lifetimes have 32 bits, a token 64, and a SOFTWARE at most 763 bytes
+-- (RFC 8489, section 14.14)
 pub record IsInFields (content : Content) : Type 0 where
   pub lifetime : IfSome content.lifetime (λ seconds. seconds < 2 ^ 32)
   pub software : IfSome content.software (λ name. length name ≤ 763)
+  pub token : IfSome (token_in content.port) (λ token. token < 2 ^ 64)
+
+-- a client asks for the DF bit only if the server sets it: another server refuses its requests with 420
+abbrev pub IsKnown : (sets_df : Bool) → Content → Type 0
+IsKnown sets_df content = content.dont_fragment ≡ true → sets_df ≡ true
 
 -- a message is no longer than its length field can state
 abbrev pub Fits : List ℕ → Type 0

@@ -1,6 +1,6 @@
 //! Requests that a server grants, in the bytes of both sides.
 
-ghost use Rattle.std.specs.Prelude.{◌≡◌, ◌≤◌, ◌<◌, ◌^◌, ◌∷◌, [], ℕ, false, List, length, None, Some, is_some};
+ghost use Rattle.std.specs.Prelude.{◌≡◌, ◌≤◌, ◌<◌, ◌^◌, ◌∷◌, [], ℕ, false, true, List, length, None, Some, is_some};
 ghost use Rattle.stun_grammar.specs.Numbers.{IsBytes};
 ghost use Rattle.stun_values.specs.declared.algorithm.PasswordAlgorithmValue.{PasswordAlgorithmValue};
 ghost use Rattle.stun_authentication.specs.declared.answer.Refusal.TheVariants.{Unauthenticated};
@@ -28,7 +28,7 @@ ghost use Rattle.turn_peers.specs.Tunnels.{is_tunnelled};
 ghost use Rattle.turn_requests.specs.Requests.{Credentials};
 ghost use Rattle.turn_server.specs.Acting.{act, refuses};
 ghost use Rattle.turn_sessions.specs.Hearing.{Host, IsAnswered, IsMet, account_at, sent_by, state_there};
-ghost use Rattle.turn_sessions.specs.Requests.{family_of, wants_of};
+ghost use Rattle.turn_sessions.specs.Requests.{is_plain, wants_of};
 ghost use Rattle.turn_sessions.specs.Sides.{Fits, IsInFields, IsNamed, IsTransport};
 
 use stun_endpoints::sockets_are_of_endpoints;
@@ -43,15 +43,15 @@ use turn_client_messages::{fit_responses_are_heard, judged_is_authentic};
 /// is granted again; and each peer of a CreatePermission request is permitted, and the channel of a ChannelBind
 /// request bound.
 ///
-/// It doesn't say that a datagram arrives. An Allocate request that comes again, with its allocation open, and one
-/// that the server refuses are not part of it.
+/// It doesn't say that a datagram arrives. An Allocate request that comes again, with its allocation open, one that
+/// reserves a port or asks for a reserved one, and one that the server refuses are not part of it.
 pub fn fit_is_heard()
     ensures opened { (client : Client) (r : Request) (others : List Endpoint) (login : Credentials)
         (host : Host) (key : UserKey) (want : Want) (offer : Offer)
         → let sent = sent_by client r others login in IsMet sent host key → r.kind ≡ Allocate
-        → is_tunnelled host.site.client ≡ false
+        → is_tunnelled host.site.client ≡ false → is_plain client.content.port ≡ true
         → wants_in (has_numbers (state_there host)) host.numbers
-        (wants_of host.site.sockets (family_of client.content)) ≡ want ∷ []
+        (wants_of host.site.sockets client.content) ≡ want ∷ []
         → IsFit host.setup host.tuple (account_at host sent) want offer (state_there host)
         → IsTransport offer.address
         → IsAnswered sent host key (Opened offer.address host.tuple.client

@@ -1,8 +1,8 @@
 use Rattle.std.proofs.Common.{◌∙◌, Some, refl, ap, inl, inr}
 use Rattle.turn_client_state.specs.States.{output_at}
-use Rattle.turn_client.specs.Receiving.{event_at}
+use Rattle.turn_client.specs.Receiving.{event_at, news_at}
 use Rattle.stun_types_c.specs.CResults.{write_result}
-use Rattle.stun_types_c.proofs.AllocationLemmas.{shown_is_data}
+use Rattle.stun_types_c.proofs.AllocationLemmas.{shown_is_told}
 use Rattle.stun_types_c.proofs.allocation_client.receive.Goals as goal
 
 pub returns-in-Ok : goal.returns-in-Ok
@@ -14,8 +14,8 @@ returns-in-Ok c =
       record {
         same = refl;
         receives = c.in-Ok.ensures.state;
-        in_c = shown_is_data d (output_at c.args.now 0 (event_at client c.args.from d) client.held) c.in-Ok.shown c.data_in_c.result
-            (c.data_is_at_its_place.ensures client c.args.now c.args.from) c.in-Ok.ensures.data c.data_in_c.ensures;
+        in_c = shown_is_told d (output_at c.args.now 0 (event_at client c.args.from d) client.held) _ c.in-Ok.received c.received_in_c.result
+            (c.data_is_at_its_place.ensures client c.args.now c.args.from) c.in-Ok.ensures.data c.in-Ok.ensures.news c.received_in_c.ensures;
       },
     )
 

@@ -16,7 +16,12 @@ returns-then-not-is_server-clause-state c =
     receives_other c.args.self.now c.args.now c.args.from c.args.datagram.now c.pass.new.self
     (sym c.is_server.ensures ∙ c.if-not-is_server.true) (c.pass.ensures c.args.from)
 
-pub returns-in-Stray-clause-state : goal.returns-in-Stray-clause-state
-returns-in-Stray-clause-state c =
-    receives_one c.args.self.now c.args.now c.args.from c.args.datagram.now stray c.pass-in-Stray.new.self
-    (sym c.is_server.ensures ∙ c.if-not-is_server.false) (sym c.judged.ensures ∙ ap judged_of c.in-Stray.is) refl (c.pass-in-Stray.ensures c.args.from)
+pub returns-in-Some-take_other-clause-state : goal.returns-in-Some-take_other-clause-state
+returns-in-Some-take_other-clause-state c =
+    receives_one c.args.self.now c.args.now c.args.from c.args.datagram.now stray c.take_other.new.self
+    (sym c.is_server.ensures ∙ c.if-not-is_server.false) (sym c.judged.ensures ∙ ap judged_of c.in-Stray.is) refl (c.take_other.ensures.state c.args.from)
+
+pub returns-in-None-take_other-clause-state : goal.returns-in-None-take_other-clause-state
+returns-in-None-take_other-clause-state c =
+    receives_one c.args.self.now c.args.now c.args.from c.args.datagram.now stray c.take_other.new.self
+    (sym c.is_server.ensures ∙ c.if-not-is_server.false) (sym c.judged.ensures ∙ ap judged_of c.in-Stray.is) refl (c.take_other.ensures.state c.args.from)
