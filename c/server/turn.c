@@ -265,8 +265,11 @@ static void withhold(stun_types_turn_datagram *request) {
     (void)answer; /* (as above) */
 }
 
-/* Draws a token for a request that may reserve a port. Without one it can't. */
-static void draw_token(stun_types_turn_datagram *request) {
+/* Passes the sockets that are ready with a request of a user, which alone takes one; and a token, without which
+ * it reserves none. */
+static void pass_sockets(stun_types_turn_datagram *request) {
+    request->ready = *ready_sockets();
+    if (setting(RESERVATIONS) == 0) return;
     if (getrandom(&request->token, sizeof request->token, 0) == sizeof request->token) return;
     memset(&request->ready.next_ipv4, 0, sizeof request->ready.next_ipv4);
     memset(&request->ready.next_ipv6, 0, sizeof request->ready.next_ipv6);
@@ -278,9 +281,8 @@ static stun_types_answer pass_on(const turn_client *from, const uint8_t *bytes, 
     stun_types_turn_datagram datagram = {.bytes = bytes,
                                          .length = length,
                                          .from = from->tuple,
-                                         .ready = *ready_sockets(),
                                          .looked_up = looked_up};
-    if (looked_up && setting(RESERVATIONS) > 0) draw_token(&datagram);
+    if (looked_up) pass_sockets(&datagram);
     bool refreshes = looked_up && is_request(bytes, length, REFRESH);
     if (refreshes) end_expired();
     if (looked_up && is_draining()) withhold(&datagram);

@@ -1,16 +1,12 @@
 """Trials of the server as a TURN server: fields of the IP header of what it relays."""
-import contextlib
 import os
 import secrets
 import signal
 import socket
-import struct
-import time
 
 from harness import in_own_network
-from steps import PATIENCE, Skipped, check, run, wait_until
-from turn import (ALLOCATE, CONTENT, FAMILY, OTHER, PEER, SEND, INDICATION, UDP, Client, Peer, attributes, ended,
-                  turn_server)
+from steps import PATIENCE, Skipped, check, run
+from turn import ALLOCATE, CONTENT, FAMILY, INDICATION, PEER, SEND, UDP, Client, Peer, ended, turn_server
 
 DONT_FRAGMENT = (0x001A, b"")
 MARKED = 46 << 2 | 2  # Expedited Forwarding, ECT(0)

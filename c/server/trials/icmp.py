@@ -1,7 +1,4 @@
 """Trials of the server as a TURN server: ICMP packets about what its clients sent."""
-import os
-import secrets
-import select
 import socket
 import struct
 import time

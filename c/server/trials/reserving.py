@@ -9,7 +9,7 @@ import time
 from harness import free_port
 from metrics import shows
 from operators import report
-from steps import PATIENCE, check, run, wait_until
+from steps import check, wait_until
 from turn import (ALLOCATE, EVEN_PORT, OTHER, RELAYED, FAMILY, UDP, Client, Peer, ended, exchange, read_xored,
                   turn_server)
 
@@ -106,8 +106,6 @@ def reserved(programs):
     with turn_server(programs) as server, Client(server) as client:
         check(reserve(client, wanted=508) is None and client.allocate(), "it isn't refused")
         ended(server)
-    status, out, told = run([programs["server"], "-T", "-j", "2", "-o", "reservations=1", "127.0.0.1", "1"], PATIENCE)
-    check(status != 0, f"status {status}: {out}{told}")
 
 
 def reserve_one(server, address, stream):

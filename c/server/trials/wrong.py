@@ -13,6 +13,8 @@ ARGUMENTS = [("foo=1", "no setting"), ("rate", "NAME=VALUE"), ("rate=", "0 to 10
              ("deny=10.0.0.1:0", "1 to 65535"), ("deny=[::1]", "[::1]:80"), ("relay-address=host", "no IP address"),
              ("ports=5-4", "LOW-HIGH"), ("realm=" + "a" * 129, "128"), ("users=", "no value"),
              ("packet-rate=1000001", "0 to 1000000"), ("user-packet-rate=x", "0 to 1000000"), ("log-json=2", "0 to 1"),
+             ("reservations=10001", "0 to 10000"), ("dont-fragment=2", "0 to 1"), ("icmp=on", "0 to 1"),
+             ("header-fields=-1", "0 to 1"),
              ("log-rate=-1", "0 to 1000000"), ("allocation-log=log", "no off, on or syslog"),
              ("proxy=10.0.0.1/8", "10.0.0.0/8 is right"), ("proxy=10.0.0.1:80", "ports after a prefix"),
              ("proxy=", "no value"), ("kernel=", "no value"), ("kernel=an-interface-too", "at most 15 characters"), ("drain-seconds=864001", "0 to 864000"), ("nonce-secret=", "no value"),
@@ -36,6 +38,7 @@ SECRETS = [("s" * 257, "257 characters; at most 256"), ("a\nb\nc\nd\ne", "5: a s
 WHOLE = [("ports 3000-4000", "127.0.0.1 3478", ":5: ports 3000-4000: 3478, at which the server listens"),
          ("", "127.0.0.1 50000", "ports 49152-65535: 50000, at which"), ("", "0.0.0.0 3478", "relay-address"),
          ("external-address 2001:db8::1", "127.0.0.1 3478", "no relay-address"),
+         ("reservations 1", "-j 2 127.0.0.1 3478", "reservations are known to one process; -j 1 is needed"),
          ("allocation-log /none/log", "127.0.0.1 3478", ":5: allocation-log /none/log: No such file or directory; a "),
          ("allocation-log /dev", "127.0.0.1 3478", ":5: allocation-log /dev: Is a directory; a file ")]
 
