@@ -12,8 +12,7 @@ pub(crate) fn ones_sum(sum: u64) -> u16
 {
     let once = sum % 65536 + sum / 65536;
     let twice = once % 65536 + once / 65536;
-    let thrice = twice % 65536 + twice / 65536;
-    (thrice % 65536 + thrice / 65536) as u16
+    (twice % 65536 + twice / 65536) as u16
 }
 
 /// The sum of the two words of a number of four bytes.

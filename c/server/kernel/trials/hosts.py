@@ -10,7 +10,7 @@ import subprocess
 import time
 
 import programs
-from steps import check
+from steps import PATIENCE, check
 
 HOME = "/proc/self/ns/net"
 CLIENTS, SERVERS = ("10.77.1.2", "fd77:1::2"), ("10.77.1.1", "fd77:1::1")
@@ -52,7 +52,7 @@ class Host:
         with self.here():
             made = socket.socket(socket.AF_INET6 if ":" in address else socket.AF_INET, socket.SOCK_DGRAM)
             made.bind((address, port))
-            made.settimeout(1)
+            made.settimeout(PATIENCE)
             return made
 
 
@@ -122,7 +122,7 @@ def both_ways(loader, folder):
             ours, theirs = client.socket(CLIENTS[family], 20001), peer.socket(PEERS[family], 40001)
             server = socket.socket(ours.family, socket.SOCK_DGRAM)
             server.bind((SERVERS[family], 3478))
-            server.settimeout(1)
+            server.settimeout(PATIENCE)
             channel(program, family, 0x4000, interfaces)
             ours.sendto(b"\x40\0\0\4data", (SERVERS[family], 3478))
             got = received(theirs)

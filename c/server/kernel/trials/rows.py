@@ -42,7 +42,7 @@ class Bench:
     """A program, the interface at which it is, and the flows that it has."""
 
     def __init__(self, program, interface, mac):
-        self.program, self.interface, self.live = program, interface, set()
+        self.program, self.interface, self.live = program, interface, {}
         self.macs = mac + bytes.fromhex("02000000000b")
 
     def frame(self, *words, **how):
@@ -51,7 +51,7 @@ class Bench:
     def fill(self, server):
         """The flows that the model has for its clients over UDP, by the event before."""
         self.program.clear()
-        self.live = set()
+        self.live = {}
         for its in server.relays:
             for number in [] if its.tuple.streams else its.channels:
                 self.add(server, its, number)
@@ -70,8 +70,7 @@ class Bench:
         interfaces = self.interface, self.interface
         self.program.begin(client, place, number, own, peer, 0, end, interfaces)
         self.program.begin(peer, own, 0, place, client, number, end, interfaces)
-        # (while a frame is on its way, a flow of less may end)
-        self.live |= {(client, place, number), (peer, own, 0)} if left > 0.05 else set()
+        self.live |= {(client, place, number): end, (peer, own, 0): end}
 
     def check(self, frame, wanted):
         """Runs the program on a frame; `wanted` is what the model sends, as its ends and its data, or None. Returns
@@ -102,7 +101,7 @@ class Bench:
         number = 0 if is_longer else int.from_bytes(read.data[:2])
         key = (read.source, read.source_port), (read.destination, read.port), number
         is_exact = is_longer or len(wanted[4]) + 4 == len(read.data)
-        return is_exact and key in self.live and len(wanted[0]) == len(read.source) and read.ttl > 1
+        return is_exact and self.live.get(key, 0) > time.monotonic_ns() and len(wanted[0]) == len(read.source) and read.ttl > 1
 
 
 def require(holds, told):
