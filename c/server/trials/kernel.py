@@ -321,6 +321,20 @@ def rates(programs, hosts):
         check(ended(server)["turn_in_kernel"] == 0, "the kernel relays beside a limit of a user's")
 
 
+@with_mounts
+def left_to_it(programs, hosts):
+    """What the kernel can't relay the server does: to a peer on its own machine, and to one by another interface."""
+    with relaying(programs, hosts) as server:
+        with hosts.server.inside():
+            peer = Peer("203.0.113.1")
+        with Pair(hosts, server, peer=peer) as pair:
+            pair.exchange()
+            check(ended(server)["turn_in_kernel"] == 0, "the kernel relays to its own machine")
+    with relaying(programs, hosts, by=["-o", "kernel=left"]) as server, Pair(hosts, server) as pair:
+        pair.exchange()
+        check(ended(server)["turn_in_kernel"] == 0, "the kernel relays by another interface")
+
+
 # what the unit does by TemporaryFileSystem and BindReadOnlyPaths
 UNIT_MOUNTS = f"""
 mount -t tmpfs none /mnt && mkdir /mnt/pins && mount --bind {PINS}/stun-server /mnt/pins
