@@ -102,7 +102,6 @@ stun_types_ip_fields take_fields(struct msghdr *received) {
 
 /* ---- What is sent ---------------------------------------------------------------------------- */
 
-bool are_fields_set(void) { return setting(HEADER_FIELDS) || setting(DONT_FRAGMENT); }
 
 bool choose_fields(const stun_types_turn_relayed *relayed, stun_types_ip_fields *fields) {
     stun_types_turn_sent sent;
@@ -125,6 +124,8 @@ void add_fields(struct msghdr *to, sent_control *room, const stun_types_ip_field
     bool six = family == 6;
     int level = six ? IPPROTO_IPV6 : IPPROTO_IP;
     int tos = fields->dscp << 2 | fields->ecn;
+    bool is_whole = six && fields->dont_fragment == 1;
+    if (tos == 0 && fields->hop_limit == STUN_TYPES_FIELD_UNSET && !is_whole) return;
     memset(room, 0, sizeof *room);
     if (to->msg_controllen > 0) memcpy(room, to->msg_control, to->msg_controllen);
     to->msg_control = room;
@@ -132,8 +133,7 @@ void add_fields(struct msghdr *to, sent_control *room, const stun_types_ip_field
     if (fields->hop_limit != STUN_TYPES_FIELD_UNSET) {
         add_control(to, level, six ? IPV6_HOPLIMIT : IP_TTL, fields->hop_limit);
     }
-    if (six && fields->dont_fragment == 1) add_control(to, level, IPV6_DONTFRAG, 1);
-    if (to->msg_controllen == 0) to->msg_control = NULL;
+    if (is_whole) add_control(to, level, IPV6_DONTFRAG, 1);
 }
 
 /* (no control message of IPv4 has the DF bit) */

@@ -429,8 +429,7 @@ void set_listener_options(int socket, int family);
 stun_types_ip_fields take_fields(struct msghdr *received);
 stun_types_ip_fields no_fields(void);
 
-/* Whether fields are set of what is relayed; which; and false: nothing is sent. */
-bool are_fields_set(void);
+/* Chooses the fields of a datagram that relays data. False: nothing is sent. */
 bool choose_fields(const stun_types_turn_relayed *relayed, stun_types_ip_fields *fields);
 
 /* Appends control messages with these fields to those of a datagram to a family, all in a room. */

@@ -28,7 +28,7 @@ static struct {
     user_keys keys;
     stun_types_id ids[IDS]; /* random */
     size_t ids_left;
-    bool sets_fields;
+    bool sets_fields, reads_fields; /* of the IP header */
 } turn;
 
 /* Datagrams for peers that wait, and those of peers. */
@@ -122,7 +122,8 @@ size_t turn_files(void) { return setting(TURN) ? setting(ALLOCATIONS) + setting(
 bool begin_turn(const turn_process *of) {
     turn.process = *of;
     turn.now = nonce_time(nanoseconds());
-    turn.sets_fields = are_fields_set();
+    turn.reads_fields = setting(HEADER_FIELDS);
+    turn.sets_fields = turn.reads_fields || setting(DONT_FRAGMENT);
     for (int i = 0; i < HELD; i++) {
         outgoing.messages[i].msg_hdr.msg_name = &outgoing.peers[i].bytes;
         outgoing.messages[i].msg_hdr.msg_iov = &outgoing.places[i];
@@ -540,7 +541,7 @@ static void relay_data(relay *by, struct mmsghdr *received, uint8_t *room, bool 
     stun_types_turn_delivery delivery;
     stun_types_ip_fields fields;
     size_t length = received->msg_len;
-    bool has_fields = turn.sets_fields && by->client.tuple.stream == 0;
+    bool has_fields = turn.reads_fields && by->client.tuple.stream == 0;
     if (!address_of(received->msg_hdr.msg_name, &peer)) return;
     stun_types_answer answer =
         stun_types_turn_peer(&turn.server, turn.now, &peer, by->number, length, next_id(), room,
@@ -570,7 +571,7 @@ static size_t receive(relay *by) {
     unsigned asked = by->asked > 0 ? by->asked : 1;
     for (size_t i = 0; i < asked; i++) {
         incoming[i].msg_hdr.msg_namelen = sizeof sources[i];
-        if (turn.sets_fields) {
+        if (turn.reads_fields) {
             incoming[i].msg_hdr.msg_control = &incoming_controls[i];
             incoming[i].msg_hdr.msg_controllen = sizeof incoming_controls[i];
         }

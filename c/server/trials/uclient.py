@@ -34,12 +34,13 @@ def expect_echoes(ran):
     """Waits for turnutils_uclient, which has to receive each message that it sends. (It compares their
     numbers and lengths.)"""
     said, _ = ran.communicate(timeout=PATIENCE)
-    total = str(CLIENTS * MESSAGES)
+    total = CLIENTS * MESSAGES  # (from client to client it sends more)
     sums = re.findall(r"tot_send_msgs=(\d+), tot_recv_msgs=(\d+)", said)
     lost = re.findall(r"Total lost packets (\d+).*, total send dropped (\d+)", said)
     complaints = re.findall(r".*(?:ERROR|[Ww]rong).*", said)
     check(not complaints, f"it complains: {complaints[:3]}")
-    right = ran.returncode == 0 and sums and sums[-1] == (total, total) and lost == [("0", "0")]
+    sent, received = map(int, sums[-1]) if sums else (0, 0)
+    right = ran.returncode == 0 and sent == received >= total and lost == [("0", "0")]
     told = "" if ran.returncode == 0 else said.strip().splitlines()[-1:]
     check(right, f"status {ran.returncode}, messages {sums[-1:]} of {total}, lost {lost} {told}")
 
