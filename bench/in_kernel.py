@@ -112,18 +112,20 @@ def microseconds(mode, network, folder, count, size):
     return used / (counted["at peers"] + counted["back"]) * 1e6
 
 
-def print_table(folder, rounds, has_coturn):
+def print_table(folder, rounds, has_coturn, words):
     modes = [it for it in MODES if it != "coturn" or has_coturn]
     mount_pins()
     subprocess.run([serving.TOP / "c/server/kernel/build", *unproved(folder), folder / "kernel"], check=True,
                    stdout=subprocess.DEVNULL)
-    print("| Octets, channels |", *(f"{MODES[it]} |" for it in modes), "Ratios |")
+    print("| Size, channels |", *(f"{MODES[it]} |" for it in modes), "Ratios |")
     print("|---|" + "---|" * (len(modes) + 1))
     with contextlib.ExitStack() as all_of:
         network = Network(all_of)
         for size in SIZES:
             for count in CROWDS:
-                print_row(f"{size:,}, {count:,}", modes, network, folder, rounds, count, size)
+                title = f"{size:,} octets, {count:,}"
+                if words in title:
+                    print_row(title, modes, network, folder, rounds, count, size)
 
 
 def print_row(title, modes, network, folder, rounds, count, size):
