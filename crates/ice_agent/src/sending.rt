@@ -86,7 +86,7 @@ impl Agent {
     /// - `TooSmall { expected, actual }` if `out` has no room for the request: its length, and that of `out`, which
     ///   stays as it was. The request counts as sent, and lost. With fragments of at most 32 characters and without
     ///   a SOFTWARE none is longer than 148 bytes.
-    /// - `OutOfMemory` if an allocation failed. Only time has passed: the request is still due.
+    /// - `OutOfMemory` if an allocation failed: then only time has passed, and the request is still due.
     pub fn poll(
         &mut self,
         alloc: Global,
