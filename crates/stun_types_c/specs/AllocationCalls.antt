@@ -142,7 +142,7 @@ IsNews (failed error) out = IsFailed error out
 IsNews (reserved token) out = out ≡ token_in_c token
 IsNews no_news out = out ≡ no_data
 
--- the data that is shown, or else what else the datagram tells
+-- the data that is shown, or else what else the datagram reports
 abbrev pub IsTold : Output → News → List ℕ → CAllocationData → Type 0
 IsTold (shows peer bytes) news d out = IsShown peer bytes d out
 IsTold _ news d out = IsNews news out

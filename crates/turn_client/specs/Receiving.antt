@@ -127,7 +127,7 @@ shown_with (Some (Data given)) = data_with (Some given)
 shown_with (Some (Failed error)) = nothing
 shown_with (Some (Reservation token)) = nothing
 
--- ---- What a datagram tells the user besides data
+-- ---- What a datagram reports to the user besides data
 
 -- that a packet to a peer was dropped; the token of the reservation that the server has made; or nothing
 pub data News : Type 0 where
@@ -162,7 +162,7 @@ news_of now before after d stray =
     option_map_or (λ error. failed error) (heard_error (at now before) (peer_error d)) no_news
 news_of now before after d _ = no_news
 
--- of a datagram that took a client to its next state; what doesn't come from the server tells nothing
+-- of a datagram that took a client to its next state; what doesn't come from the server reports nothing
 abbrev pub news_at : Client → (now : ℕ) → (from : Endpoint) → List ℕ → (after : State) → News
 news_at client now from d after =
     if is_endpoint from client.held.settings.server

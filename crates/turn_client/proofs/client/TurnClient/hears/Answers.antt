@@ -8,7 +8,7 @@ use Rattle.turn_client.specs.Receiving.{hears}
 use Rattle.turn_client.specs.contracts.client.TurnClient.{the_view}
 use Rattle.turn_client.proofs.client.TurnClient.hears.Goals as goal
 
--- what is shown tells which test was met
+-- what is shown says which test was met
 same_test : (a b : Bool) (peer : Endpoint) → (if a then shows peer [] else nothing) ≡ (if b then shows peer [] else nothing) → b ≡ a
 same_test true true peer is = refl
 same_test false false peer is = refl
