@@ -415,6 +415,7 @@ static void check_no_lite_agent(const char *name, uint8_t byte) {
 static void test_lite_messages(void) {
     static const stun_types_ice_lite none = STUN_TYPES_ICE_LITE_INIT;
     stun_types_ice_lite *agent = (void *)copy(&none, sizeof none);
+    const stun_types_ice_lite_settings *settings = good_lite_settings();
     stun_types_ice_received *received = NEW(stun_types_ice_received);
     uint8_t *out = room(64);
     const slice binding = hex("0001 0000 2112A442 00*12");
@@ -423,7 +424,7 @@ static void test_lite_messages(void) {
     size_t length = 20;
     row("a lite ICE agent", "messages that are refused");
     heap_allow(true);
-    ANSWERS(stun_types_ice_lite_new(agent, good_lite_settings()), OK_ANSWER);
+    ANSWERS(stun_types_ice_lite_new(agent, settings), OK_ANSWER);
     memcpy(whole, binding.bytes, 20);
     ANSWERS(stun_types_add_fingerprint(whole, sizeof whole, &length), OK_ANSWER);
     ANSWERS(stun_types_ice_lite_datagram(agent, 0, 3, &somewhere, whole, length, out, 40, received),
