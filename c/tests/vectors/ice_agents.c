@@ -675,6 +675,7 @@ static void answer_lite(void) {
     stun_types_ice_lite_base bases[MOST_BASES];
     stun_types_ice_lite_settings settings;
     slice bases_given, settings_given;
+    stun_types_answer answer;
     char *name;
     memset(bases, 0, sizeof bases);
     memset(&settings, 0, sizeof settings);
@@ -691,9 +692,10 @@ static void answer_lite(void) {
     now = 0;
     make_keys();
     heap_measure(false);
-    ANSWERS(stun_types_ice_lite_new(lite, (const void *)settings_given.bytes), OK_ANSWER);
+    answer = stun_types_ice_lite_new(lite, (const void *)settings_given.bytes);
     heap_measure(true);
-    while ((name = call_word()) != NULL) lite_event(name);
+    if (is_taken(answer))
+        while ((name = call_word()) != NULL) lite_event(name);
     answer_or_nothing();
     stun_types_ice_lite_free(lite);
     CHECK(is_zero(lite, sizeof *lite));
