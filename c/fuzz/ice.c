@@ -225,6 +225,61 @@ static void check_line(source *from) {
           && one->address.family == other->address.family && one->address.port == other->address.port);
 }
 
+/* ---- a lite agent */
+
+static void check_lite_datagram(stun_types_ice_lite *agent, uint64_t now, source *from) {
+    const size_t wanted = take(from), length = wanted < from->left ? wanted : from->left;
+    const uint8_t *bytes = copy_of(from->bytes, length);
+    const stun_types_address *address = take_address(from);
+    const size_t size = take(from) % 4 == 0 ? take(from) : ROOM_MOST;
+    uint8_t *out = place(size);
+    stun_types_ice_received *received = NEW(stun_types_ice_received);
+    const stun_types_answer answer =
+        stun_types_ice_lite_datagram(agent, now, take(from) % 4, address, bytes, length, out, size, received);
+    if (!is_family(address)) HOLDS(is_same(answer, BAD_ARGUMENT));
+    else HOLDS(answer.code == STUN_TYPES_OK
+               || (answer.code == STUN_TYPES_TOO_SMALL && answer.actual == size && answer.expected > size));
+    HOLDS(received->kind <= STUN_TYPES_ICE_DATA && received->reserved == 0 && received->length <= size);
+    HOLDS((received->kind == STUN_TYPES_ICE_RESPONSE) == (received->length != 0));
+    HOLDS(is_filled(out + received->length, size - received->length));
+    if (received->length != 0) HOLDS(model_parse(out, received->length).code == STUN_TYPES_OK);
+}
+
+/* A lite agent of the settings of a full one. */
+static void check_lite(source *from, const stun_types_ice_settings *full) {
+    stun_types_ice_lite_base *bases = place(2 * sizeof *bases);
+    stun_types_ice_lite_settings *settings = NEW(stun_types_ice_lite_settings);
+    stun_types_ice_lite agent = stun_types_ice_lite_none();
+    stun_types_ice_path *path = NEW(stun_types_ice_path);
+    const stun_types_answer wanted = login(full->ufrag, full->ufrag_length, full->password, full->password_length);
+    stun_types_answer answer;
+    unsigned step;
+    memset(bases, 0, 2 * sizeof *bases);
+    memset(settings, 0, sizeof *settings);
+    bases[0].number = take(from) % 4;
+    bases[1].number = take(from) % 4;
+    bases[1].component = (uint16_t)(take(from) % 3);
+    bases[1].reserved = take(from) == 0;
+    settings->ufrag = full->ufrag;
+    settings->ufrag_length = full->ufrag_length;
+    settings->password = full->password;
+    settings->password_length = full->password_length;
+    settings->bases = bases;
+    settings->base_count = take(from) % 3;
+    settings->reserved = take(from) == 0;
+    answer = stun_types_ice_lite_new(&agent, settings);
+    if (settings->reserved != 0 || (settings->base_count == 2 && bases[1].reserved != 0))
+        HOLDS(is_same(answer, BAD_ARGUMENT));
+    else HOLDS(is_same(answer, wanted));
+    for (step = 0; agent.held != 0 && step < STEPS; step++) {
+        const size_t first = places_used();
+        check_lite_datagram(&agent, step, from);
+        HOLDS(stun_types_ice_lite_route(&agent, step, (uint16_t)(take(from) % 3), path) == is_family(&path->to));
+        release_places(first);
+    }
+    stun_types_ice_lites_free(&agent, 1);
+}
+
 static void (*const steps[])(session *it) = {check_peer, check_candidate, check_candidate, check_datagram,
                                              check_datagram, check_poll, check_poll, check_state, check_end};
 
@@ -250,5 +305,6 @@ void check_ice(source *from) {
             release_places(first);
         }
     stun_types_ices_free(it.agent, 1);
+    check_lite(from, settings);
     check_line(from);
 }

@@ -1,5 +1,5 @@
-/* An ICE agent in C: making one and ending it, what its calls refuse, and candidates' texts. What it does then
- * is asked by the rows of vectors/ice-agent. */
+/* An ICE agent in C, full or lite: making one and ending it, what its calls refuse, and candidates' texts. What it
+ * does then is asked by the rows of vectors/ice-agent and vectors/ice-lite. */
 #include <string.h>
 
 #include "check.h"
@@ -379,6 +379,111 @@ static void test_texts(void) {
     CANDIDATE_WITH("the type 5", kind, (stun_types_ice_candidate_kind)5, WRONG);
 }
 
+/* ---- a lite agent */
+
+static stun_types_ice_lite_settings *good_lite_settings(void) {
+    static const stun_types_ice_lite_base bases[] = {{3, 1, 0}, {4, 2, 0}};
+    stun_types_ice_lite_settings *it = NEW(stun_types_ice_lite_settings);
+    const stun_types_ice_settings *full = good_settings();
+    memset(it, 0, sizeof *it);
+    it->ufrag = full->ufrag;
+    it->ufrag_length = full->ufrag_length;
+    it->password = full->password;
+    it->password_length = full->password_length;
+    it->bases = (const void *)copy(bases, sizeof bases);
+    it->base_count = COUNT(bases);
+    return it;
+}
+
+static void check_lite_settings(const char *name, const stun_types_ice_lite_settings *settings,
+                                stun_types_answer expected) {
+    static const stun_types_ice_lite none = STUN_TYPES_ICE_LITE_INIT;
+    stun_types_ice_lite *agent = (void *)copy(&none, sizeof none);
+    row("what a lite ICE agent is made by", name);
+    heap_allow(true);
+    ANSWERS(stun_types_ice_lite_new(agent, settings), expected);
+    CHECK((agent->held != 0) == (expected.code == STUN_TYPES_OK));
+    stun_types_ice_lite_free(agent);
+    CHECK(is_zero(agent, sizeof *agent));
+}
+
+static void test_lite_settings(void) {
+    static const stun_types_ice_lite_base reserved[] = {{3, 1, 0}, {4, 2, 1}};
+    stun_types_ice_lite_settings *it = good_lite_settings();
+    check_lite_settings("nothing wrong", it, OK_ANSWER);
+    it->reserved = 1;
+    check_lite_settings("reserved", it, WRONG);
+    it = good_lite_settings();
+    it->bases = (const void *)copy(reserved, sizeof reserved);
+    check_lite_settings("a base with reserved", it, WRONG);
+    it = good_lite_settings();
+    it->bases = NULL;
+    it->base_count = 0;
+    check_lite_settings("no base", it, OK_ANSWER);
+    it = good_lite_settings();
+    it->password_length = 0;
+    check_lite_settings("no byte of password", it, WRONG);
+    it = good_lite_settings();
+    it->password_length = 21;
+    check_lite_settings("a password of 21 characters", it, INVALID);
+    it = good_lite_settings();
+    it->ufrag_length = 3;
+    check_lite_settings("a fragment of 3 characters", it, INVALID);
+}
+
+static void check_no_lite_agent(const char *name, uint8_t byte) {
+    stun_types_ice_lite *agent = NEW(stun_types_ice_lite);
+    stun_types_ice_received *received = NEW(stun_types_ice_received);
+    stun_types_ice_path *path = NEW(stun_types_ice_path);
+    uint8_t *out = room(64);
+    const slice bytes = text("data");
+    row("a lite ICE agent", name);
+    memset(agent, byte, sizeof *agent);
+    ANSWERS(stun_types_ice_lite_datagram(agent, 0, 3, &somewhere, bytes.bytes, bytes.length, out, 64, received),
+            WRONG);
+    CHECK(is_untouched(out, 64) && is_zero(received, sizeof *received));
+    CHECK(!stun_types_ice_lite_route(agent, 0, 1, path) && is_zero(path, sizeof *path));
+    stun_types_ice_lite_free(agent);
+    stun_types_ice_lite_free(NULL);
+}
+
+/* Messages without room, and from nowhere. */
+static void test_lite_messages(void) {
+    static const stun_types_ice_lite none = STUN_TYPES_ICE_LITE_INIT;
+    stun_types_ice_lite *agent = (void *)copy(&none, sizeof none);
+    const stun_types_ice_lite_settings *settings = good_lite_settings();
+    stun_types_ice_received *received = NEW(stun_types_ice_received);
+    uint8_t *out = room(64);
+    const slice binding = hex("0001 0000 2112A442 00*12");
+    stun_types_address nowhere = somewhere;
+    uint8_t whole[28];
+    size_t length = 20;
+    row("a lite ICE agent", "messages that are refused");
+    heap_allow(true);
+    ANSWERS(stun_types_ice_lite_new(agent, settings), OK_ANSWER);
+    memcpy(whole, binding.bytes, 20);
+    ANSWERS(stun_types_add_fingerprint(whole, sizeof whole, &length), OK_ANSWER);
+    ANSWERS(stun_types_ice_lite_datagram(agent, 0, 3, &somewhere, whole, length, out, 40, received),
+            LENGTHS(STUN_TYPES_TOO_SMALL, 48, 40));
+    CHECK(is_zero(received, sizeof *received) && is_untouched(out, 64));
+    ANSWERS(stun_types_ice_lite_datagram(agent, 0, 3, &somewhere, whole, length, out, 64, received), OK_ANSWER);
+    CHECK(received->kind == STUN_TYPES_ICE_RESPONSE && received->length == 48);
+    nowhere.family = 0;
+    ANSWERS(stun_types_ice_lite_datagram(agent, 0, 3, &nowhere, whole, length, out, 64, received), WRONG);
+    CHECK(is_zero(received, sizeof *received));
+    stun_types_ice_lite_free(agent);
+}
+
+static void test_lite(void) {
+    check_no_lite_agent("none, of zeros", 0);
+    check_no_lite_agent("none, of a repeated byte", FILL);
+    check_no_lite_agent("none, of ones", 0xFF);
+    row("a lite ICE agent", "STUN_TYPES_ICE_LITE_INIT");
+    CHECK(stun_types_ice_lite_none().at == NULL && stun_types_ice_lite_none().held == 0);
+    test_lite_settings();
+    test_lite_messages();
+}
+
 void test_ice(void) {
     check_no_agent("none, of zeros", 0);
     check_no_agent("none, of a repeated byte", FILL);
@@ -389,4 +494,5 @@ void test_ice(void) {
     test_candidates();
     test_messages();
     test_texts();
+    test_lite();
 }

@@ -353,6 +353,29 @@ static void test_ice_agents(void) {
     CHECK(*written == 0);
 }
 
+static void test_lite_agents(void) {
+    static const stun_types_ice_lite none = STUN_TYPES_ICE_LITE_INIT;
+    static const stun_types_ice_lite_settings no_settings;
+    stun_types_ice_lite_settings *settings = NEW(stun_types_ice_lite_settings);
+    stun_types_ice_lite *agent = NEW(stun_types_ice_lite);
+    stun_types_ice_received *received = NEW(stun_types_ice_received);
+    const slice fragment = text("evtj"), password = text("VOkJxbRl1RmTxUk/WvJxBt");
+    *agent = none;
+    heap_allow(true);
+    ANSWERS(stun_types_ice_lite_new(agent, &no_settings), PLAIN(STUN_TYPES_BAD_ARGUMENT));
+    memset(settings, 0, sizeof *settings);
+    settings->ufrag = fragment.bytes;
+    settings->ufrag_length = fragment.length;
+    settings->password = password.bytes;
+    settings->password_length = password.length;
+    ANSWERS(stun_types_ice_lite_new(agent, settings), OK_ANSWER);
+    ANSWERS(stun_types_ice_lite_datagram(agent, 0, 1, &address, NULL, 0, NULL, 0, received), OK_ANSWER);
+    CHECK(is_zero(received, sizeof *received));
+    heap_allow(false);
+    stun_types_ice_lite_free(agent);
+    stun_types_ice_lites_free(NULL, 0);
+}
+
 void test_nulls(void) {
     row("slices that are NULL", "that are read");
     test_read();
@@ -374,4 +397,6 @@ void test_nulls(void) {
     test_turn_clients();
     row("slices that are NULL", "of ICE agents");
     test_ice_agents();
+    row("slices that are NULL", "of lite ICE agents");
+    test_lite_agents();
 }

@@ -16,7 +16,7 @@ enum { ARGUMENTS = 9, APART = 512 };
    zeros, and nothing else has changed. SERVER is a TURN server, CLIENT a TURN client, and AGENT an ICE agent,
    which are made for all calls. */
 typedef struct {
-    enum { READ = 1, WRITTEN, VERDICT, KEY, SERVER, CLIENT, AGENT } is;
+    enum { READ = 1, WRITTEN, VERDICT, KEY, SERVER, CLIENT, AGENT, LITE } is;
     size_t size, align;
     const char *begins;
 } argument;
@@ -185,6 +185,8 @@ CALL(ice_add_address) { REPORT(stun_types_ice_add_address(at[0], at[1])); }
 CALL(ice_datagram) { REPORT(stun_types_ice_datagram(at[0], 0, 1, at[1], at[2], 28, 0, at[3], 64, at[4])); }
 CALL(ice_poll) { REPORT(stun_types_ice_poll(at[0], 0, at[1], at[2], 40, at[3], at[4])); }
 CALL(ice_status) { REPORT_BOOL(stun_types_ice_status(at[0], 1, at[1])); }
+CALL(ice_lite_new) { REPORT(stun_types_ice_lite_new(at[0], at[1])); }
+CALL(ice_lite_datagram) { REPORT(stun_types_ice_lite_datagram(at[0], 0, 1, at[1], at[2], 28, at[3], 64, at[4])); }
 CALL(ice_candidate_read) { REPORT(stun_types_ice_candidate_read(at[0], 4, at[1])); }
 CALL(ice_candidate_write) { REPORT(stun_types_ice_candidate_write(at[0], at[1], 40, at[2])); }
 CALL(attempt_next) { REPORT_BOOL(stun_types_allocation_attempt_next(at[0], at[1])); }
@@ -250,11 +252,21 @@ static void logs_in(void *const *at) {
     it->software_length = 2;
 }
 
+static void is_lite(void *const *at) {
+    stun_types_ice_lite_settings *it = at[1];
+    it->ufrag = at[2];
+    it->ufrag_length = 4;
+    it->password = at[3];
+    it->password_length = 22;
+    it->bases = at[4];
+    it->base_count = 1;
+}
+
 static const struct {
     uint64_t (*call)(void *const *at);
     void (*put)(void *const *at);
 } structs[] = {{refuse_long_term, asks}, {turn_new, sets}, {turn_set_rules, rules}, {turn_client, comes},
-               {allocation_new, names}, {ice_new, logs_in}};
+               {allocation_new, names}, {ice_new, logs_in}, {ice_lite_new, is_lite}};
 
 /* ---- the calls, and what they are given: answers that aren't REFUSED, if no arguments overlap */
 
@@ -279,6 +291,7 @@ static const struct {
 #define TURN_SERVER {SERVER, sizeof(stun_types_turn), 8, ""}
 #define TURN_CLIENT {CLIENT, sizeof(stun_types_allocation), 8, ""}
 #define ICE_AGENT {AGENT, sizeof(stun_types_ice), 8, ""}
+#define LITE_AGENT {LITE, sizeof(stun_types_ice_lite), 8, ""}
 
 static const guarded_call calls[] = {
     {"stun_types_framed_length", framed_length, {BYTES(20, HEADER), COUNTED}},
@@ -448,6 +461,11 @@ static const guarded_call calls[] = {
      {ICE_AGENT, BYTES(sizeof(stun_types_id), ""), ROOM(40, ""), ZEROED(sizeof(stun_types_ice_request)),
       LEFT(8, "")}},
     {"stun_types_ice_status", ice_status, {ICE_AGENT, ZEROED(sizeof(stun_types_ice_standing))}},
+    {"stun_types_ice_lite_new", ice_lite_new,
+     {LEFT(sizeof(stun_types_ice_lite), ""), GIVEN(sizeof(stun_types_ice_lite_settings), ""), BYTES(4, "FF*4"),
+      BYTES(22, ""), {READ, sizeof(stun_types_ice_lite_base), 4, ""}}},
+    {"stun_types_ice_lite_datagram", ice_lite_datagram,
+     {LITE_AGENT, ADDRESS, BYTES(28, USER), ROOM(64, ""), ZEROED(sizeof(stun_types_ice_received))}},
     {"stun_types_ice_candidate_read", ice_candidate_read,
      {BYTES(4, "FF*4"), {WRITTEN, sizeof(stun_types_ice_candidate), 4, ""}}},
     {"stun_types_ice_candidate_write", ice_candidate_write,
@@ -608,6 +626,38 @@ static void test_agent(const stun_types_ice *agent) {
     }
 }
 
+static void make_lite_agent(stun_types_ice_lite *agent) {
+    static const stun_types_ice_lite none = STUN_TYPES_ICE_LITE_INIT;
+    static const stun_types_ice_lite_base base = {1, 1, 0};
+    stun_types_ice_lite_settings settings;
+    memset(&settings, 0, sizeof settings);
+    settings.ufrag = "evtj";
+    settings.ufrag_length = 4;
+    settings.password = "VOkJxbRl1RmTxUk/WvJxBt";
+    settings.password_length = 22;
+    settings.bases = &base;
+    settings.base_count = 1;
+    *agent = none;
+    heap_allow(true);
+    ANSWERS(stun_types_ice_lite_new(agent, &settings), OK_ANSWER);
+    heap_allow(false);
+}
+
+/* A path of which the first or the last bytes are a lite agent's is zeros. */
+static void test_lite_agent(const stun_types_ice_lite *agent) {
+    static uint64_t at[40];
+    const size_t size = sizeof(stun_types_ice_path) / 8;
+    int way;
+    row("overlaps", "stun_types_ice_lite_route");
+    for (way = 0; way < 2; way++) {
+        void *const left = at + 10;
+        stun_types_ice_lite *handle = (void *)(at + 10 + (way == 0 ? -1 : (int)size - 1));
+        memset(at, FILL, sizeof at);
+        *handle = *agent;
+        CHECK(!stun_types_ice_lite_route(handle, 0, 1, left) && is_zero(left, size * 8));
+    }
+}
+
 /* A change of which the first or the last bytes are the client's is zeros, and is reported by the next call. */
 static void test_change(const stun_types_allocation *client) {
     static uint64_t at[40];
@@ -702,11 +752,13 @@ void test_overlaps(void) {
     stun_types_turn server;
     stun_types_allocation client;
     stun_types_ice agent;
+    stun_types_ice_lite lite;
     size_t i, one, other;
-    row("arguments that overlap", "a TURN server, a TURN client and an ICE agent are made");
+    row("arguments that overlap", "a TURN server, a TURN client and ICE agents are made");
     make_server(&server);
     make_client(&client);
     make_agent(&agent);
+    make_lite_agent(&lite);
     for (i = 0; i < COUNT(calls); i++) {
         const guarded_call *it = &calls[i];
         const size_t count = count_of(it);
@@ -717,6 +769,7 @@ void test_overlaps(void) {
             begins[one] = it->arguments[one].is == SERVER   ? given(&server, sizeof server)
                           : it->arguments[one].is == CLIENT ? given(&client, sizeof client)
                           : it->arguments[one].is == AGENT  ? given(&agent, sizeof agent)
+                          : it->arguments[one].is == LITE   ? given(&lite, sizeof lite)
                                                             : hex(it->arguments[one].begins);
         spread(at);
         apart = allowed(it, at);
@@ -731,6 +784,8 @@ void test_overlaps(void) {
     stun_types_allocation_free(&client);
     test_agent(&agent);
     stun_types_ice_free(&agent);
+    test_lite_agent(&lite);
+    stun_types_ice_lite_free(&lite);
     test_ends();
     test_flow();
 }

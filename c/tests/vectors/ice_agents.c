@@ -18,6 +18,7 @@ static const char peer_fragment[] = "h6vY", peer_password[] = "KPKLPQPlb6g8DVIXi
 static const stun_types_address signalled = {{198, 51, 100, 254}, 9, 4};
 
 static stun_types_ice *agent;
+static stun_types_ice_lite *lite; /* the agent that is asked instead, if there is one */
 static stun_types_key own_key, peer_key;
 static uint64_t now;
 static bool is_met, is_refused;
@@ -182,9 +183,14 @@ static stun_types_ice_received take(uint64_t random, uint32_t base, const stun_t
     stun_types_ice_received *received = NEW(stun_types_ice_received);
     *out = room(ICE_ROOM);
     is_awake = false;
-    ANSWERS(stun_types_ice_datagram(agent, now, base, (const void *)from_given.bytes, datagram.bytes,
-                                    datagram.length, random, *out, ICE_ROOM, received),
-            OK_ANSWER);
+    if (lite != NULL)
+        ANSWERS(stun_types_ice_lite_datagram(lite, now, base, (const void *)from_given.bytes, datagram.bytes,
+                                             datagram.length, *out, ICE_ROOM, received),
+                OK_ANSWER);
+    else
+        ANSWERS(stun_types_ice_datagram(agent, now, base, (const void *)from_given.bytes, datagram.bytes,
+                                        datagram.length, random, *out, ICE_ROOM, received),
+                OK_ANSWER);
     CHECK(received->reserved == 0 && received->length <= ICE_ROOM);
     CHECK((received->length != 0) == (received->kind == STUN_TYPES_ICE_RESPONSE));
     CHECK(received->kind == STUN_TYPES_ICE_DATA || received->component == 0);
@@ -395,11 +401,16 @@ static void data(void) {
     else answer_text("dropped");
 }
 
+static bool find_path(uint16_t component, stun_types_ice_path *path) {
+    if (lite != NULL) return stun_types_ice_lite_route(lite, now, component, path);
+    return stun_types_ice_route(agent, now, component, path);
+}
+
 static void send(void) {
     const uint16_t component = (uint16_t)call_count();
     stun_types_ice_path *path = NEW(stun_types_ice_path);
     is_awake = false;
-    if (!stun_types_ice_route(agent, now, component, path)) {
+    if (!find_path(component, path)) {
         CHECK(is_zero(path, sizeof *path));
         answer_word("dropped");
         return;
@@ -653,4 +664,66 @@ static void answer_agent(void) {
     answer_or_nothing();
 }
 
-const verb verbs_of_ice_agents[] = {{"agent", answer_agent, true}, {NULL, NULL, false}};
+/* ---- a lite agent */
+
+enum { MOST_BASES = 8 };
+
+static size_t bases_of(char *word, stun_types_ice_lite_base *bases) {
+    size_t count = 0;
+    char *part;
+    if (word != NULL && strcmp(word, "-") == 0) return 0;
+    while (count < MOST_BASES && (part = next_part(&word, ',')) != NULL) {
+        bases[count].number = (uint32_t)number_in(&part);
+        bases[count++].component = (uint16_t)number_in(&part);
+    }
+    return count;
+}
+
+static void lite_event(const char *name) {
+    static const char *const names[] = {"at", "check", "stray", "data", "send"};
+    size_t at;
+    for (at = 0; at < COUNT(names); at++)
+        if (strcmp(name, names[at]) == 0) {
+            event(name);
+            return;
+        }
+    answer_unknown();
+}
+
+static void answer_lite(void) {
+    static const stun_types_ice_lite none = STUN_TYPES_ICE_LITE_INIT;
+    const slice fragment = text(own_fragment), password = text(own_password);
+    stun_types_ice_lite_base bases[MOST_BASES];
+    stun_types_ice_lite_settings settings;
+    slice bases_given, settings_given;
+    stun_types_answer answer;
+    char *name;
+    memset(bases, 0, sizeof bases);
+    memset(&settings, 0, sizeof settings);
+    settings.ufrag = fragment.bytes;
+    settings.ufrag_length = fragment.length;
+    settings.password = password.bytes;
+    settings.password_length = password.length;
+    settings.base_count = bases_of(call_word(), bases);
+    bases_given = given(bases, settings.base_count * sizeof *bases);
+    settings.bases = (const void *)bases_given.bytes;
+    settings_given = given(&settings, sizeof settings);
+    keep_secret(password);
+    lite = (void *)copy(&none, sizeof none);
+    now = 0;
+    make_keys();
+    heap_measure(false);
+    answer = stun_types_ice_lite_new(lite, (const void *)settings_given.bytes);
+    heap_measure(true);
+    if (is_taken(answer))
+        while ((name = call_word()) != NULL) lite_event(name);
+    answer_or_nothing();
+    stun_types_ice_lite_free(lite);
+    CHECK(is_zero(lite, sizeof *lite));
+    lite = NULL;
+    stun_types_key_free(&own_key);
+    stun_types_key_free(&peer_key);
+}
+
+const verb verbs_of_ice_agents[] = {
+    {"agent", answer_agent, true}, {"lite", answer_lite, true}, {NULL, NULL, false}};
