@@ -455,7 +455,7 @@ static void answer_request(const stun_types_ice_request *request, const uint8_t 
     request_count++;
 }
 
-/* Polls with an ID, and answers what the request is; false if none is due. */
+/* Polls with an ID, and answers what the request is; false if none is due. If memory is refused, it is still due. */
 static bool poll_with(uint64_t number) {
     const stun_types_id id = id_of_number(number);
     const slice id_given = given(&id, sizeof id);
@@ -469,7 +469,7 @@ static bool poll_with(uint64_t number) {
     if (!is_taken(answer)) {
         CHECK(is_zero(request, sizeof *request) && *wake == now && is_untouched(out, ICE_ROOM));
         is_refused = true;
-        return;
+        return true;
     }
     CHECK(request->length <= ICE_ROOM && is_untouched(out + request->length, ICE_ROOM - request->length));
     is_awake = true;
@@ -523,8 +523,12 @@ static void answer_wake(uint64_t moment) {
 /* The moment is now if a poll would write a request. */
 static void wake(void) {
     uint64_t moment = wakes;
-    if (is_awake || wakes_next(&moment)) answer_wake(moment);
-    else wakes_keep(poll_with(0) ? now : wakes);
+    if (is_awake || wakes_next(&moment)) {
+        answer_wake(moment);
+        return;
+    }
+    moment = poll_with(0) ? now : wakes;
+    if (!is_refused) wakes_keep(moment);
 }
 
 static char changes[MOST_CHANGES][CHANGE_MOST];
