@@ -9,7 +9,7 @@
  * FOLDER, and belong to USER, a name or a number. They stay until --remove, or until the machine restarts; a program whose
  * maps no server writes relays nothing.
  *
- * It needs CAP_BPF and CAP_NET_ADMIN. The status is 0 if it did what it was told, 3 if it couldn't, 64 if the arguments are
+ * It needs CAP_BPF and CAP_NET_ADMIN. The status is 0 if all is done, 3 if it couldn't be done, 64 if the arguments are
  * wrong, 78 if the file is. */
 #define _GNU_SOURCE
 #include <arpa/inet.h>

@@ -173,7 +173,7 @@ INLINE bool has_interface(__u32 interface) {
 
 /* ---- A flow ---------------------------------------------------------------------------------- */
 
-/* Where a datagram goes: what a flow says, read once, since its writer may write it at any time. */
+/* The way of a datagram, as its flow has it: read once, since the writer of the flow may change it at any time. */
 struct way {
     struct ip ours, theirs;
     __be16 our_port, their_port;

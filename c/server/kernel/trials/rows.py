@@ -110,7 +110,7 @@ def require(holds, told):
 
 
 def server_of(client):
-    """Where a client sends to."""
+    """The address and the port that a client sends to."""
     return OTHER if client.name == "4" else SERVERS[machine.family_of(client.client[0])], PORT
 
 
