@@ -187,7 +187,11 @@ fn add_token<B: MessageWrite>(token: u64, write: &mut B) -> Result<(), StunWrite
     ensures { Lengthens result (B.state write.old) (B.state write.new)
         (port_attributes (Reserved token)) }
 {
-    add_bytes(AttributeType(RESERVATION_TOKEN), &token.to_be_bytes(), write)
+    add_bytes(
+        AttributeType(RESERVATION_TOKEN),
+        &token.to_be_bytes(),
+        write,
+    )
 }
 
 /// Adds EVEN-PORT or RESERVATION-TOKEN, if the port is not to be any.
