@@ -18,11 +18,12 @@ returns-in-Ok-Some c =
     let result = c.write.result in
     let output_is : request_at now id session.newer ≡ asked_with (Some c.in-Ok-Some.request) = c.in-Ok-Some.ensures.request ∙ ap asked_with c.in-Ok-Some.field-0-is in
     let then : Session = record { newer = c.request.new.self; older = session.older } in
-    subst (λ (s : Session). IsSessionPolled now id s then old new result) c.relieve.ensures (inl
-    ((λ i. record { newer = c.in-Ok-Some.ensures.state i; older = older_after now id (sym output_is i) session.older }),
-    subst (λ (o : Output). FirstPolls now id o session old new result) (sym output_is)
-    (sent_alike session.newer now id polls session.newer.logins.peer c.in-Ok-Some.request old new result
-    (subst (λ (a : Agent). IsSent a a.logins.peer c.in-Ok-Some.request old new result) c.in-Ok-Some.ensures.state c.write.ensures))))
+    subst (λ (s : Session). IsSessionPolled now id s then old new result) c.relieve.ensures (inl (
+      (λ i. record { newer = c.in-Ok-Some.ensures.state i; older = older_after now id (sym output_is i) session.older }),
+      subst (λ (o : Output). FirstPolls now id o session old new result) (sym output_is)
+          (sent_alike session.newer now id polls session.newer.logins.peer c.in-Ok-Some.request old new result
+          (subst (λ (a : Agent). IsSent a a.logins.peer c.in-Ok-Some.request old new result) c.in-Ok-Some.ensures.state c.write.ensures)),
+    ))
 
 pub returns-in-Ok-None : goal.returns-in-Ok-None
 returns-in-Ok-None c =
@@ -36,10 +37,11 @@ returns-in-Ok-None c =
     let then : Session = record { newer = c.request.new.self; older = c.poll_older.new.older } in
     subst (λ (s : Session). IsSessionPolled now id s then old new result) c.relieve.ensures
     (elim c.poll_older.ensures as (λ _. IsSessionPolled now id session then old new result) [
-      | inl polled ↦ inl
-          (let older_is = polled.0 ∙ ap (λ (o : Output). older_after now id o session.older) (sym output_is) in
-          (λ i. record { newer = c.in-Ok-None.ensures.state i; older = older_is i }),
-          subst (λ (o : Output). FirstPolls now id o session old new result) (sym output_is) polled.1)
+      | inl polled ↦ inl (
+        let older_is = polled.0 ∙ ap (λ (o : Output). older_after now id o session.older) (sym output_is) in
+            (λ i. record { newer = c.in-Ok-None.ensures.state i; older = older_is i }),
+        subst (λ (o : Output). FirstPolls now id o session old new result) (sym output_is) polled.1,
+      )
       | inr refused ↦ inr (refused.0, (inr (output_is, (λ i. record { newer = c.in-Ok-None.ensures.state i; older = refused.1.0 i })), refused.1.1))
     ])
 
