@@ -1,6 +1,6 @@
 -- The state is what the past decides.
-use Rattle.std.proofs.Common.{◌≡◌, ℕ, ◌+◌, Bool, true, false, ◌&&◌, List, [], ◌∷◌, map, find, max, Option, None, Some, refl, sym, ap, ◌∙◌, subst, eqb-true, eq-eqb}
-use Rattle.std.specs.Prelude.{◌==◌, nat_lt, if◌then◌else◌}
+use Rattle.std.proofs.Common.{◌≡◌, ℕ, Bool, true, false, ◌&&◌, List, [], ◌∷◌, map, find, Option, None, Some, refl, sym, ap, ◌∙◌, eqb-true, eq-eqb}
+use Rattle.std.specs.Prelude.{◌==◌, if◌then◌else◌}
 use Rattle.std.specs.Option.{option_and_then, option_map, option_map_or, option_or}
 use Rattle.std.proofs.lemmas.Bool.{and_parts, and_from}
 use Rattle.stun_endpoints.specs.declared.endpoints.Endpoint.{Endpoint}
@@ -9,13 +9,12 @@ use Rattle.stun_endpoints.proofs.AddressesLemmas.{endpoint_is_itself}
 use Rattle.ice_machine.specs.declared.messages.Check.{Check}
 use Rattle.ice_machine.specs.declared.roles.Role.{Role}
 use Rattle.ice_machine.specs.declared.roles.Role.TheVariants.{Controlling, Controlled}
-use Rattle.ice_machine.specs.Agents.{seconds}
 use Rattle.ice_machine.specs.Roles.{is_controlling}
 use Rattle.ice_machine.specs.Events.{Event, gathers, learns, meets, ends, checks, responds, strays, arrives, sends, polls, Output, data_to, data_from, nothing}
 use Rattle.ice_machine.specs.Runs.{Happening}
 use Rattle.ice_lite.specs.Agents.{LiteBase, LitePair, LiteCandidate, State, is_base, is_candidate, is_live}
-use Rattle.ice_lite.specs.Steps.{at, renewed, nominated, refreshed, heard, accepts, decides, does_nothing, happens, step, comes, received, is_way, sent}
-use Rattle.ice_lite.specs.Runs.{Timed, begun, run, happening, history}
+use Rattle.ice_lite.specs.Steps.{at, renewed, nominated, refreshed, heard, decides, does_nothing, step, received, is_way, sent}
+use Rattle.ice_lite.specs.Runs.{Timed, run, happening, history}
 use Rattle.ice_lite.specs.Past.{Heard, heard_if, is_accepted, is_nomination, is_of, is_on, is_recent, latest, renewal, sent_by_past, taken_by_past}
 
 -- ---- Lists and options

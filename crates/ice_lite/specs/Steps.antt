@@ -1,5 +1,5 @@
 -- One step of a lite agent: its next state and its output.
-use Rattle.std.specs.Prelude.{ℕ, Bool, false, ◌&&◌, List, map, find, max, Option, None, Some, ◌==◌, if◌then◌else◌}
+use Rattle.std.specs.Prelude.{ℕ, Bool, false, ◌&&◌, List, map, find, max, None, Some, ◌==◌, if◌then◌else◌}
 use Rattle.std.specs.Option.{option_map, option_map_or}
 use Rattle.stun_endpoints.specs.declared.endpoints.Endpoint.{Endpoint}
 use Rattle.stun_endpoints.specs.Endpoints.{is_endpoint}
@@ -9,7 +9,7 @@ use Rattle.ice_machine.specs.declared.roles.Role.{Role}
 use Rattle.ice_machine.specs.declared.roles.Role.TheVariants.{Controlling, Controlled}
 use Rattle.ice_machine.specs.Events.{Event, checks, strays, arrives, sends, Output, answers, data_to, data_from, nothing}
 use Rattle.ice_machine.specs.Steps.{strayed}
-use Rattle.ice_lite.specs.Agents.{LiteBase, LitePair, LiteCandidate, State, is_candidate, is_live}
+use Rattle.ice_lite.specs.Agents.{LitePair, LiteCandidate, State, is_candidate, is_live}
 
 pub record Step : Type 0 where
   pub state : State
