@@ -125,9 +125,7 @@ impl Peers<'_> {
     fn is_listening(&self, peer: Endpoint) -> bool
         ensures { result ≡ is_listening self.now.listening.now peer }
     {
-        self.listening
-            .iter()
-            .any(|own| Endpoint::from(*own) == peer)
+        self.listening.iter().any(|own| is_at(*own, peer))
     }
 }
 
@@ -166,9 +164,18 @@ impl PeerPolicy for Peers<'_> {
 
 ghost use Rattle.std.specs.Prelude.{◌≡◌};
 ghost use Rattle.std.specs.List.{list_all};
+ghost use Rattle.stun_endpoints.specs.Conversions.{endpoint_of};
+ghost use Rattle.stun_endpoints.specs.Endpoints.{is_endpoint};
 ghost use Rattle.turn_peers.specs.declared.defaults.TheConstants.{DENIED_BY_DEFAULT as denied_by_default};
 ghost use Rattle.turn_peers.specs.Peers.{is_allowed_by, is_open};
 ghost use Rattle.turn_peers.specs.Ranges.{has_all_ports};
+
+/// Whether a socket address is this transport address. The port is compared first, since few have the same.
+fn is_at(own: SocketAddr, peer: Endpoint) -> bool
+    ensures { result ≡ is_endpoint (endpoint_of own) peer }
+{
+    own.port() == peer.port && Endpoint::from(own) == peer
+}
 
 /// Whether each of these ranges has all ports.
 fn all_whole(ranges: &[PeerRange]) -> bool
