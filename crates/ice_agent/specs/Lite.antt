@@ -1,5 +1,5 @@
 -- A lite agent that speaks bytes, and its whole runs (RFC 8445, sections 2.5 and 7.3.2).
-use Rattle.std.specs.Prelude.{◌≡◌, ℕ, false, List, [], ◌∷◌, None}
+use Rattle.std.specs.Prelude.{ℕ, false, List, [], ◌∷◌, None}
 use Rattle.stun_endpoints.specs.declared.endpoints.Endpoint.{Endpoint}
 use Rattle.ice_machine.specs.Events.{Event, Output, sends}
 use Rattle.ice_lite.specs.Agents.{State}
