@@ -3,14 +3,14 @@
  *     stun-server-kernel [-U USER] [-P FOLDER] [-c FILE] [-o NAME=VALUE].. ADDRESS PORT [ADDRESS PORT]..
  *     stun-server-kernel --remove [-P FOLDER]
  *
- * The addresses, the file and the settings are those of stun-server; of the settings it takes `kernel`, `relay-address` and
- * `ports`, and leaves the others to the server. The program gets the server's own addresses, its ports and the interfaces as
- * constants, looks at what comes in by the interfaces (tc, ingress), and is replaced if it was there. The maps are pinned in
- * FOLDER, and belong to USER, a name or a number. They stay until --remove, or until the machine restarts; a program whose
- * maps no server writes relays nothing.
+ * The addresses, the file and the settings are those of stun-server; of the settings it takes `kernel`, `relay-address`
+ * and `ports`, and leaves the others to the server. The program gets the server's own addresses, its ports and the
+ * interfaces as constants, looks at what comes in by the interfaces (tc, ingress), and is replaced if it was there. The
+ * maps are pinned in FOLDER, and belong to USER, a name or a number. They stay until --remove, or until the machine
+ * restarts; a program whose maps no server writes relays nothing.
  *
- * It needs CAP_BPF and CAP_NET_ADMIN. The status is 0 if all is done, 3 if it couldn't be done, 64 if the arguments are
- * wrong, 78 if the file is. */
+ * It needs CAP_BPF and CAP_NET_ADMIN. The status is 0 if all is done, 3 if it couldn't be done, 64 if the arguments
+ * are wrong, 78 if the file is. */
 #define _GNU_SOURCE
 #include <arpa/inet.h>
 #include <errno.h>
@@ -45,7 +45,10 @@ struct reference {
 #include "relay_code.h"
 
 enum { STATUS_DONE = 0, STATUS_BROKEN = 3, STATUS_WRONG_ARGUMENTS = 64, STATUS_WRONG_SETTINGS = 78 };
-enum { INSTRUCTIONS = sizeof relay_code / sizeof *relay_code, REFERENCES = sizeof relay_references / sizeof *relay_references };
+enum {
+    INSTRUCTIONS = sizeof relay_code / sizeof *relay_code,
+    REFERENCES = sizeof relay_references / sizeof *relay_references
+};
 enum { FILTER_PRIORITY = 3478, FILTER_HANDLE = 1 };
 
 static const char *const pins[RELAY_MAPS] = RELAY_PINS;
@@ -118,7 +121,9 @@ static bool add_interface(const char *name) {
     unsigned number = if_nametoindex(name);
     if (number == 0) return refuse("kernel %s: there is no such interface", name);
     if (number == if_nametoindex("lo")) return refuse("kernel %s: nothing comes in by it that is relayed", name);
-    if (asked.interface_count == MOST_INTERFACES) return refuse("kernel %s: one too many; %d is the most", name, MOST_INTERFACES);
+    if (asked.interface_count == MOST_INTERFACES) {
+        return refuse("kernel %s: one too many; %d is the most", name, MOST_INTERFACES);
+    }
     asked.own.interfaces[asked.interface_count++] = number;
     return true;
 }
@@ -186,8 +191,9 @@ static bool add_all(const struct ip *any, uint16_t port) {
         struct ip ip = {{[10] = 0xff, [11] = 0xff}};
         int family = at->ifa_addr != NULL ? at->ifa_addr->sa_family : AF_UNSPEC;
         if (!is_of_interface(at) || !(family == AF_INET || (family == AF_INET6 && !is_four(any)))) continue;
-        if (family == AF_INET) memcpy(ip.octets + 12, &((const struct sockaddr_in *)(const void *)at->ifa_addr)->sin_addr, 4);
-        else memcpy(ip.octets, &((const struct sockaddr_in6 *)(const void *)at->ifa_addr)->sin6_addr, 16);
+        const void *bytes = at->ifa_addr;
+        if (family == AF_INET) memcpy(ip.octets + 12, &((const struct sockaddr_in *)bytes)->sin_addr, 4);
+        else memcpy(ip.octets, &((const struct sockaddr_in6 *)bytes)->sin6_addr, 16);
         is_right = add_listening(&ip, port);
     }
     freeifaddrs(all);
@@ -272,7 +278,7 @@ static int load_program(const int maps[RELAY_MAPS]) {
     memcpy(words, relay_code, sizeof words);
     for (size_t i = 0; i < REFERENCES; i++) {
         const struct reference *at = &relay_references[i];
-        /* (two instructions load a map: its number is in the high half of the first, an offset in that of the second) */
+        /* (two instructions load a map: its number is the high half of the first, an offset that of the second) */
         __u64 kind = at->map == OWN ? BPF_PSEUDO_MAP_VALUE : BPF_PSEUDO_MAP_FD;
         __u64 offset = at->map == OWN ? (words[at->at] >> 32) + at->from : 0;
         words[at->at] = (words[at->at] & 0x0fff) | kind << 12 | (__u64)(__u32)maps[at->map] << 32;

@@ -1,7 +1,8 @@
-/* Relays ChannelData of TURN (RFC 8656, 12.4 to 12.7) where packets come in (tc, ingress), by the flows that a TURN server
- * has put into a map. It relays a datagram only if a flow of exactly its addresses, ports and channel number is there, isn't
- * over, and is one from the server's own addresses to its own addresses. Whatever else comes goes on to the server,
- * unchanged, which decides as if this program weren't there. It answers nothing and makes no flow.
+/* Relays ChannelData of TURN (RFC 8656, 12.4 to 12.7) where packets come in (tc, ingress), by the flows that a
+ * TURN server has put into a map. It relays a datagram only if a flow of exactly its addresses, ports and
+ * channel number is there, isn't over, and is one from the server's own addresses to its own addresses.
+ * Whatever else comes goes on to the server, unchanged, which decides as if this program weren't there. It
+ * answers nothing and makes no flow.
  *
  * What it decides and writes is in rules.h; here bytes are moved and maps are asked. */
 #include <linux/bpf.h>
@@ -122,8 +123,8 @@ INLINE void *bytes_at(struct __sk_buff *skb, __u32 at, __u32 count) {
     return data + at + count > end ? NULL : data + at;
 }
 
-/* Reads UDP, and four bytes more: ChannelData has at least these, and a shorter datagram of a peer is rare enough to go
- * up. */
+/* Reads UDP, and four bytes more: ChannelData has at least these, and a shorter datagram of a peer is rare
+ * enough to go up. */
 INLINE bool read_udp(struct __sk_buff *skb, __u32 at, struct seen *seen) {
     const struct udp_wire *wire = bytes_at(skb, at, sizeof *wire);
     if (wire == NULL) {
@@ -183,8 +184,8 @@ struct way {
     __u32 from_interface, to_interface, worker, life, bucket;
 };
 
-/* Whether a slot holds the flow of this key. The kernel may give the memory of an entry that has just been deleted from
- * the index to another one, whatever reads it: so the entry alone proves nothing. */
+/* Whether a slot holds the flow of this key. The kernel may give the memory of an entry that has just been
+ * deleted from the index to another one, whatever reads it: so the entry alone proves nothing. */
 INLINE bool is_of(const struct flow *of, const struct flow_key *key) {
     const volatile struct long_words *one = (const volatile struct long_words *)&of->key;
     const struct long_words *other = (const struct long_words *)key;
@@ -216,8 +217,8 @@ INLINE void read_way(const struct flow *of, struct way *way) {
     asm volatile("" : : "r"(way) : "memory"); /* (nothing is read again) */
 }
 
-/* Whether a way leaves from an own place, by an own interface: to a peer from a relayed address, with nothing before the
- * data, and to a client from where the server listens, with a channel number. */
+/* Whether a way leaves from an own place, by an own interface: to a peer from a relayed address, with nothing
+ * before the data, and to a client from where the server listens, with a channel number. */
 INLINE bool is_ours(const struct way *way, bool to_peer) {
     if (!has_interface(way->to_interface)) return false;
     if (to_peer) return way->number == 0 && is_relayed(&way->ours, way->our_port);
@@ -271,7 +272,8 @@ INLINE bool may_pass(__u32 number, __u32 octets, __u64 now) {
 
 /* ---- A datagram ---------------------------------------------------------------------------------- */
 
-/* Finds the flow of what was read, and whether it takes it now. Returns RELAYED, or what becomes of it otherwise. */
+/* Finds the flow of what was read, and whether it takes it now. Returns RELAYED, or what becomes of it
+ * otherwise. */
 INLINE __u32 choose(struct __sk_buff *skb, struct seen *seen, struct flow **found, struct way *way) {
     bool to_peer = kernel_is_channel(seen->number) && is_listening(&seen->key.ours, seen->key.our_port);
     if (!to_peer && !is_relayed(&seen->key.ours, seen->key.our_port)) return UP_UNKNOWN;
@@ -283,8 +285,8 @@ INLINE __u32 choose(struct __sk_buff *skb, struct seen *seen, struct flow **foun
     return RELAYED;
 }
 
-/* The change of the length of a datagram: the head of ChannelData is put before what goes to a client, and taken off what
- * goes to a peer. */
+/* The change of the length of a datagram: the head of ChannelData is put before what goes to a client, and
+ * taken off what goes to a peer. */
 INLINE int change_of(const struct seen *seen) { return seen->key.number != 0 ? -4 : 4; }
 
 /* What is data of it. */

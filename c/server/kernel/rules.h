@@ -1,11 +1,12 @@
-/* The rules that relay.bpf.c relays by, which crates/kernel_rules has and proves. All numbers are in the machine's order,
- * and where a function takes two addresses, they don't overlap. */
+/* The rules that relay.bpf.c relays by, which crates/kernel_rules has and proves. All numbers are in the
+ * machine's order, and where a function takes two addresses, they don't overlap. */
 #ifndef RULES_H
 #define RULES_H
 
 #include <linux/types.h>
 
-/* The header of IPv4 without options: the version with the header's length, DSCP with ECN, and the flags with the offset. */
+/* The header of IPv4 without options: the version with the header's length, DSCP with ECN, and the flags with
+ * the offset. */
 struct ipv4 {
     __u8 version, service;
     __u16 length, identification, fragment;

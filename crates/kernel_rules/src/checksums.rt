@@ -1,5 +1,5 @@
-//! The checksum of IPv4, ICMP, UDP and TCP (RFC 1071), and what becomes of it where words of what it covers are replaced
-//! (RFC 1624).
+//! The checksum of IPv4, ICMP, UDP and TCP (RFC 1071), and what becomes of it where words of what
+//! it covers are replaced (RFC 1624).
 
 ghost use Rattle.std.specs.Prelude.{◌≡◌, ◌+◌, ◌-◌, ◌*◌, ◌^◌, ◌<◌, ◌≤◌, ℕ};
 ghost use Rattle.std.specs.Int.{w32, to_be_bytes};
@@ -23,8 +23,9 @@ pub(crate) fn halves(number: u32) -> u64
     u64::from(number / 65536) + u64::from(number % 65536)
 }
 
-/// The checksum where words of what it covers are replaced: `before` is the sum of the words that go, and `after` of
-/// those that come instead. A sum that was right stays right, and one that was wrong stays wrong.
+/// The checksum where words of what it covers are replaced: `before` is the sum of the words that
+/// go, and `after` of those that come instead. A sum that was right stays right, and one that was
+/// wrong stays wrong.
 pub(crate) fn updated(checksum: u16, before: u64, after: u64) -> u16
     requires before { before ≤ 65535 * 2 ^ 20 }
     requires after { after ≤ 65535 * 2 ^ 20 }

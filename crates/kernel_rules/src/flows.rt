@@ -10,8 +10,8 @@ pub extern "C" fn kernel_is_channel(number: u16) -> bool
     (0x4000..=0x4FFF).contains(&number)
 }
 
-/// Whether the length in the header of ChannelData is that of its datagram, in which nothing comes after the data
-/// (RFC 8656, section 12.6). The headers of UDP and of ChannelData have 12 bytes.
+/// Whether the length in the header of ChannelData is that of its datagram, in which nothing comes
+/// after the data (RFC 8656, section 12.6). The headers of UDP and of ChannelData have 12 bytes.
 #[unsafe(no_mangle)]
 pub extern "C" fn kernel_is_exact(length: u16, datagram: u16) -> bool
     ensures { result ≡ (length + 12 == datagram) }
@@ -19,8 +19,9 @@ pub extern "C" fn kernel_is_exact(length: u16, datagram: u16) -> bool
     u32::from(length) + 12 == u32::from(datagram)
 }
 
-/// Whether a flow takes a datagram now: it isn't over, its process vouches for it, in the life in which it began the flow,
-/// the datagram came by the flow's interface, leaves as a packet of at most its MTU, and has a hop left.
+/// Whether a flow takes a datagram now: it isn't over, its process vouches for it, in the life in
+/// which it began the flow, the datagram came by the flow's interface, leaves as a packet of at
+/// most its MTU, and has a hop left.
 #[unsafe(no_mangle)]
 pub extern "C" fn kernel_takes(
     now: u64,
@@ -45,7 +46,8 @@ pub extern "C" fn kernel_takes(
         && hops > 1
 }
 
-/// Whether an address is one of the server's own places: it has the same 128 bits, and a port of the range.
+/// Whether an address is one of the server's own places: it has the same 128 bits, and a port of
+/// the range.
 #[unsafe(no_mangle)]
 pub extern "C" fn kernel_is_own(
     high: u64,

@@ -62,9 +62,9 @@ pub struct Ipv6 {
     pub hops: u8,
 }
 
-/// Whether a packet of IPv4 is plain: of version 4, without options, no fragment, with one datagram of UDP that
-/// fills it, and it fills its frame. `frame` is the length in bytes of the frame from the header of IP on, `datagram`
-/// the length that UDP's header says.
+/// Whether a packet of IPv4 is plain: of version 4, without options, no fragment, with one datagram
+/// of UDP that fills it, and it fills its frame. `frame` is the length in bytes of the frame from
+/// the header of IP on, `datagram` the length that UDP's header says.
 #[unsafe(no_mangle)]
 pub extern "C" fn kernel_is_plain_ipv4(header: &Ipv4, frame: u32, datagram: u16) -> bool
     ensures { result ≡ (header.now.version == 69) && (header.now.protocol == 17)
@@ -96,8 +96,9 @@ pub extern "C" fn kernel_is_plain_ipv6(
         && checksum != 0
 }
 
-/// The length with which a packet or a datagram leaves: four bytes less to the peer, without the header of ChannelData,
-/// and four more to the client. 65,535 stands for what would be longer, which no flow takes.
+/// The length with which a packet or a datagram leaves: four bytes less to the peer, without the
+/// header of ChannelData, and four more to the client. 65,535 stands for what would be longer,
+/// which no flow takes.
 #[inline]
 pub(crate) fn outgoing(length: u16, to_peer: bool) -> u16
     ensures { result ≡ outgoing to_peer length }
@@ -109,8 +110,8 @@ pub(crate) fn outgoing(length: u16, to_peer: bool) -> u16
     }
 }
 
-/// The identification with which a packet of IPv4 leaves: a new one where it may be fragmented on its way, and otherwise 0
-/// (RFC 6864).
+/// The identification with which a packet of IPv4 leaves: a new one where it may be fragmented on
+/// its way, and otherwise 0 (RFC 6864).
 #[inline]
 fn outgoing_identification(fragment: u16, new: u16) -> u16
     ensures { result ≡ outgoing_identification fragment new }
@@ -118,9 +119,9 @@ fn outgoing_identification(fragment: u16, new: u16) -> u16
     if fragment / 0x4000 % 2 == 0 { new } else { 0 }
 }
 
-/// The header of IPv4 with which a packet leaves, from one address to another. DSCP, ECN and DF stay
-/// (RFC 8656, section 14), the packet has a hop less, and its identification is 0 if DF is set and otherwise the one
-/// given (RFC 6864). A header whose checksum is wrong gets a wrong one.
+/// The header of IPv4 with which a packet leaves, from one address to another. DSCP, ECN and DF
+/// stay (RFC 8656, section 14), the packet has a hop less, and its identification is 0 if DF is set
+/// and otherwise the one given (RFC 6864). A header whose checksum is wrong gets a wrong one.
 #[unsafe(no_mangle)]
 pub extern "C" fn kernel_ipv4(
     header: &Ipv4,
@@ -160,8 +161,8 @@ pub extern "C" fn kernel_ipv4(
     };
 }
 
-/// The header of IPv6 with which a packet leaves. The traffic class stays, the flow label is 0 (RFC 8656, section 14),
-/// and the packet has a hop less.
+/// The header of IPv6 with which a packet leaves. The traffic class stays, the flow label is 0 (RFC
+/// 8656, section 14), and the packet has a hop less.
 #[unsafe(no_mangle)]
 pub extern "C" fn kernel_ipv6(header: &Ipv6, to_peer: bool, made: &mut Ipv6)
     ensures { made.new ≡ outgoing_ipv6 to_peer header.now }

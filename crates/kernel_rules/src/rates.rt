@@ -18,8 +18,9 @@ fn price(amount: u32, rate: u32) -> u64
     }
 }
 
-/// Whether so many octets, or datagrams, may pass at a rate a second, of which all is paid for until `until`; and until when
-/// it then is. It may be paid for until a second from `now` (the generic cell rate algorithm). Rate 0 has no limit.
+/// Whether so many octets, or datagrams, may pass at a rate a second, of which all is paid for
+/// until `until`; and until when it then is. It may be paid for until a second from `now` (the
+/// generic cell rate algorithm). Rate 0 has no limit.
 #[unsafe(no_mangle)]
 pub extern "C" fn kernel_may_pass(
     until: u64,

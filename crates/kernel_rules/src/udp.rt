@@ -106,8 +106,9 @@ fn ipv6_words(ends: &Ipv6Ends) -> u64
     address_words(&ends.source) + address_words(&ends.destination)
 }
 
-/// The header with which a datagram leaves. Of the other words that its checksum covers, `before` is the sum of those
-/// that go, and `after` of those that come instead. A datagram without a checksum gets none.
+/// The header with which a datagram leaves. Of the other words that its checksum covers, `before`
+/// is the sum of those that go, and `after` of those that come instead. A datagram without a
+/// checksum gets none.
 fn outgoing_udp(
     header: &Udp,
     to_peer: bool,
@@ -141,7 +142,8 @@ fn outgoing_udp(
     }
 }
 
-/// The checksum of UDP where words of what it covers are replaced: 0 stays, and 65,535 stands for another 0 (RFC 768).
+/// The checksum of UDP where words of what it covers are replaced: 0 stays, and 65,535 stands for
+/// another 0 (RFC 768).
 fn updated_udp(checksum: u16, before: u64, after: u64) -> u16
     requires before { before < 2 ^ 22 }
     requires after { after < 2 ^ 22 }
@@ -157,8 +159,9 @@ fn updated_udp(checksum: u16, before: u64, after: u64) -> u16
     if made == 0 { 65535 } else { made }
 }
 
-/// Whether a checksum is the sum of the pseudo-header of IPv4 alone, as it is in a datagram of this machine whose checksum
-/// is still to be written, where the kernel notes how. One in 65,535 others looks so too.
+/// Whether a checksum is the sum of the pseudo-header of IPv4 alone, as it is in a datagram of this
+/// machine whose checksum is still to be written, where the kernel notes how. One in 65,535 others
+/// looks so too.
 #[unsafe(no_mangle)]
 pub extern "C" fn kernel_is_unsummed_ipv4(ends: &Ipv4Ends, length: u16, checksum: u16) -> bool
     ensures { result ≡ ones_sum (words (pseudo_ipv4 ends.now length)) == checksum }
@@ -174,8 +177,9 @@ pub extern "C" fn kernel_is_unsummed_ipv6(ends: &Ipv6Ends, length: u16, checksum
     ones_sum(ipv6_words(ends) + 17 + u64::from(length)) == checksum
 }
 
-/// The header of UDP with which ChannelData with this number and this length leaves to the peer over IPv4, as plain data
-/// (RFC 8656, section 12.6). The checksum is right if that of the ChannelData was; none stays none.
+/// The header of UDP with which ChannelData with this number and this length leaves to the peer
+/// over IPv4, as plain data (RFC 8656, section 12.6). The checksum is right if that of the
+/// ChannelData was; none stays none.
 #[unsafe(no_mangle)]
 pub extern "C" fn kernel_to_peer_ipv4(
     header: &Udp,
@@ -221,8 +225,8 @@ pub extern "C" fn kernel_to_peer_ipv6(
     *made = outgoing_udp(header, true, source, destination, before, ipv6_words(to));
 }
 
-/// The header of UDP with which data of a peer leaves to the client over IPv4, as ChannelData with this number (RFC 8656,
-/// section 12.7). Returns the length that the header of ChannelData has.
+/// The header of UDP with which data of a peer leaves to the client over IPv4, as ChannelData with
+/// this number (RFC 8656, section 12.7). Returns the length that the header of ChannelData has.
 #[unsafe(no_mangle)]
 pub extern "C" fn kernel_to_client_ipv4(
     header: &Udp,
