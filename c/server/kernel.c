@@ -1,4 +1,4 @@
-/* Relaying in the kernel: the flows by which kernel/relay.bpf.c relays what goes over channels. A flow is there only
+/* Relaying in the kernel: the flows by which kernel/relay.bpf.c relays the data of channels. A flow is there only
  * while the library says that its channel relays, and ends at the moment that the library says, whatever becomes of this
  * process. kernel/load.c has loaded the program and pinned its maps; this file fills them.
  *
@@ -97,7 +97,7 @@ static void close_map(int map, bool fits) {
     errno = error;
 }
 
-/* The memory of an array that the kernel reads; NULL: it can't be had, as errno says. */
+/* The memory of an array that the kernel reads; NULL: it isn't there, as errno says. */
 static void *open_array(int which, size_t value, size_t entries) {
     int map = open_pin(which);
     bool fits = map >= 0 && has_form(map, sizeof(uint32_t), value, entries);

@@ -268,7 +268,7 @@ impl Model for CompactReport {
     ghost view = { λ r. record { component = r.component; status = status_with r.kind r.route } };
 }
 
-/// A route in place of one.
+/// What stands for a route if there is none.
 const NO_ROUTE: Route = Route {
     base: 0,
     to: Endpoint {
