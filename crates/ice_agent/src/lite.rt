@@ -65,8 +65,9 @@ use stun_types::message::{IntegrityAlgorithm, StunWriteError};
 /// let mut check = MessageWriteVec::new(alloc);
 /// let peer_fragment = Ufrag::new("h6vY").ok_or("no fragment")?;
 /// write_check(&request, peer_fragment, &Credentials { fragment, key: &key }, None, &mut check)?;
+/// let check = check.finish();
 /// let mut response = [0; 100];
-/// let answer = agent.on_datagram(alloc, 0, 1, peer, &check.finish(), &mut response)?;
+/// let answer = agent.on_datagram(alloc, 0, 1, peer, &check, &mut response)?;
 /// assert!(rt; matches!(answer, Received::Response(_)));
 /// // Data goes there for 30 seconds, and further after each further check.
 /// assert!(rt; agent.route(29_999_999_999, 1).is_some_and(|route| route.to == peer));
