@@ -102,13 +102,14 @@ fn candidate_of(candidates: &[LiteCandidate], number: u32) -> Option<&LiteCandid
 fn unselected(alloc: Global, bases: &[LiteBase]) -> Result<Vec<LiteCandidate>, AllocError>
     ensures { IfOk result (λ all. all.items ≡ map {B = LiteCandidate} runs.unselected bases.now) }
 {
-    bases
-        .iter()
-        .map(|b| LiteCandidate {
-            base: *b,
+    let mut all = Vec::with_capacity(alloc, bases.len())?;
+    for base in bases {
+        all.push(LiteCandidate {
+            base: *base,
             selected: None,
-        })
-        .collect(alloc)
+        })?;
+    }
+    Ok(all)
 }
 
 /// Whether data goes by the selected pair of a base now.
