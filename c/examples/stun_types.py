@@ -65,9 +65,12 @@ class AllocationSettings(Structure):
                 ("software", c_char_p), ("software_length", c_size_t), ("lifetime", c_uint32),
                 ("peers", c_uint32), ("rto", c_uint32), ("last_wait", c_uint32), ("sends", c_uint32),
                 ("retries", c_uint32), ("algorithm", c_uint32), ("family", c_uint16),
-                ("fingerprint", c_uint16), ("named", c_uint32), ("reserved", c_uint32)]
+                ("fingerprint", c_uint16), ("named", c_uint32), ("port", c_uint16),
+                ("dont_fragment", c_uint16), ("token", c_uint64)]
 class AllocationData(Structure):
-    _fields_ = [("at", c_size_t), ("length", c_size_t), ("peer", Address), ("shown", c_uint32)]
+    _fields_ = [("at", c_size_t), ("length", c_size_t), ("peer", Address), ("shown", c_uint32),
+                ("token", c_uint64), ("icmp_data", c_uint32), ("icmp_type", c_uint8),
+                ("icmp_code", c_uint8), ("reserved", c_uint16)]
 class AllocationHead(Structure):
     _fields_ = [("length", c_size_t), ("padding", c_size_t), ("sends", c_uint32),
                 ("reserved", c_uint32)]

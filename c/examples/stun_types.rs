@@ -69,10 +69,14 @@ pub struct AllocationSettings {
     pub server: Address, pub transport: u32, pub user: *const u8, pub user_length: usize,
     pub password: *const u8, pub password_length: usize, pub software: *const u8, pub software_length: usize,
     pub lifetime: u32, pub peers: u32, pub rto: u32, pub last_wait: u32, pub sends: u32, pub retries: u32,
-    pub algorithm: u32, pub family: u16, pub fingerprint: u16, pub named: u32, pub reserved: u32,
+    pub algorithm: u32, pub family: u16, pub fingerprint: u16, pub named: u32, pub port: u16, pub dont_fragment: u16,
+    pub token: u64,
 }
 #[repr(C)] #[derive(Default)]
-pub struct AllocationData { pub at: usize, pub length: usize, pub peer: Address, pub shown: u32 }
+pub struct AllocationData {
+    pub at: usize, pub length: usize, pub peer: Address, pub shown: u32, pub token: u64, pub icmp_data: u32,
+    pub icmp_type: u8, pub icmp_code: u8, pub reserved: u16,
+}
 #[repr(C)] #[derive(Default)]
 pub struct AllocationHead { pub length: usize, pub padding: usize, pub sends: u32, pub reserved: u32 }
 #[repr(C)] #[derive(Default)]

@@ -13,7 +13,7 @@ from ctypes import c_size_t, c_uint64, create_string_buffer
 import stun_types as stun
 from stun_types import address_of, new_id, now, text_of
 
-HEAD, ROOM = 48, 3400
+HEAD, ROOM = 52, 3400
 
 
 class Client:

@@ -12,7 +12,7 @@ use std::time::Instant;
 use std::{env, ptr, thread};
 use stun_types::*;
 
-const HEAD: usize = 48;
+const HEAD: usize = 52;
 const ROOM: usize = 3400;
 
 /// A TURN client with its socket, and one peer.
