@@ -16,7 +16,7 @@ PATIENCE = 20  # seconds, for what takes a moment on an idle machine
 SANITIZED = ["-fsanitize=address,undefined", "-fno-sanitize-recover=all", "-g"]
 
 passed = failed = 0
-wrong = []  # what was printed of the steps that failed, also of those that passed at the second try
+wrong = []  # what was printed of the steps that failed
 counting = threading.Lock()  # of steps that run at once
 wanted = ""  # trials without this in their names aren't run
 archives = []  # what the library is made of, for c/install
@@ -30,10 +30,6 @@ class Skipped(Exception):
     """Why a step isn't tried on this machine."""
 
 
-# What a step fails with.
-FAILURES = (Wrong, OSError, ValueError, KeyError, subprocess.SubprocessError)
-
-
 def skip(name, why):
     print(f"{name}: skipped, {why}", flush=True)
 
@@ -43,10 +39,10 @@ def check(holds, told):
         raise Wrong(told)
 
 
-def note(name, error, what_follows=""):
+def note(name, error):
     """Prints what is wrong in a step, and keeps it for the end."""
     with counting:
-        wrong.append(f"{name}: {type(error).__name__}: {error}{what_follows}")
+        wrong.append(f"{name}: {type(error).__name__}: {error}")
         print(wrong[-1], flush=True)
 
 
@@ -59,7 +55,7 @@ def step(name):
         yield
     except Skipped as why:
         skip(name, why)
-    except FAILURES as error:
+    except (Wrong, OSError, ValueError, KeyError, subprocess.SubprocessError) as error:
         with counting:
             failed += 1
         note(name, error)
@@ -70,15 +66,9 @@ def step(name):
 
 
 def trial(name, function, *given):
-    """A step that is one function, if its name is wanted. One that fails is tried once more, since other work
-    can hold up programs for longer than a trial waits for them: what fails twice has failed."""
-    if wanted not in name:
-        return
-    with step(name):
-        try:
-            function(*given)
-        except FAILURES as error:
-            note(name, error, " (it is tried once more)")
+    """A step that is one function, if its name is wanted."""
+    if wanted in name:
+        with step(name):
             function(*given)
 
 
